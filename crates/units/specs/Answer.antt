@@ -1,0 +1,17 @@
+-- 01, "Refusal numbers": an answer is a number and four dates; a refusal has zero dates.
+use Prim.Native.Nat.{ℕ, _+_}
+use Rattle.units.specs.declared.Date.{Date}
+use Rattle.units.specs.declared.Interval.{Interval}
+use Rattle.units.specs.declared.TxData.{TxData}
+use Rattle.units.specs.declared.Offer.{Offer}
+
+abbrev pub interval : ℕ → ℕ → Interval
+interval a b = record { start = record { 0 = a }; end = record { 0 = b } }
+
+-- the refusal with this number
+abbrev pub refused : ℕ → Offer
+refused n = record { number = n; dates = record { send = interval 0 0; recv = interval 0 0 } }
+
+-- the offer to send from s to e, received a later at its start and b later at its end
+abbrev pub offered : ℕ → ℕ → ℕ → ℕ → Offer
+offered s e a b = record { number = 0; dates = record { send = interval s e; recv = interval (s + a) (e + b) } }

@@ -1,0 +1,42 @@
+-- 01, "Numbers": the limits that a call's own figures and a window are held to.
+use Prim.Native.Nat.{ℕ, _-_, _^_}
+use mathlib.Core.Bool.{Bool}
+use lib.Dec.{leb, ltb}
+use Rattle.units.specs.declared.Date.{Date}
+use Rattle.units.specs.declared.Interval.{Interval}
+use Rattle.units.specs.declared.Bundle.{Bundle}
+use Rattle.units.specs.Logic.{both}
+
+-- dates 0 to 2^40, volumes, sizes and rates to 2^38, delays to 2^40
+abbrev pub dateMax : ℕ
+dateMax = 2 ^ 40
+
+abbrev pub lengthMax : ℕ
+lengthMax = 2 ^ 24
+
+abbrev pub volumeMax : ℕ
+volumeMax = 2 ^ 38
+
+abbrev pub rateMax : ℕ
+rateMax = 2 ^ 38
+
+abbrev pub delayMax : ℕ
+delayMax = 2 ^ 40
+
+abbrev pub priorityMax : ℕ
+priorityMax = 127
+
+-- a window: start < end, a length of at most 2^24, dates to 2^40
+unfoldable pub windowOk : Interval → Bool
+windowOk w =
+    both (ltb (w .start .0) (w .end .0))
+    (both (leb (w .end .0) dateMax)
+    (leb (w .end .0 - w .start .0) lengthMax))
+
+-- the asked time 0 to 2^40, the size 1 to 2^38, the priority 0 to 127
+unfoldable pub bundleOk : Date → Bundle → Bool
+bundleOk at b =
+    both (leb (at .0) dateMax)
+    (both (leb 1 (b .size .0))
+    (both (leb (b .size .0) volumeMax)
+    (leb (b .priority .0) priorityMax)))

@@ -1,0 +1,137 @@
+// The numbers of document 01 with their units, and the words that every manager answers in.
+ghost use mathlib.Core.Path.{_≡_};
+ghost use Prim.Native.Nat.{_+_, _≤_, _^_, min, max};
+ghost use Rattle.units.specs.Limits.{bundleOk, windowOk};
+ghost use Rattle.units.specs.Answer.{refused};
+
+pub struct Date(pub u64);
+
+pub struct Volume(pub u64);
+
+pub struct Rate(pub u64);
+
+pub struct Delay(pub u64);
+
+pub struct Priority(pub u8);
+
+// types.rs: TimeInterval
+pub struct Interval {
+    pub start: Date,
+    pub end: Date,
+}
+
+// contact_manager/mod.rs: ContactManagerTxData
+pub struct TxData {
+    pub send: Interval,
+    pub recv: Interval,
+}
+
+// bundle.rs: Bundle
+pub struct Bundle {
+    pub size: Volume,
+    pub priority: Priority,
+}
+
+// What a dry run answers: 01's number, and the four dates, which are zero unless the number is.
+pub struct Offer {
+    pub number: u8,
+    pub dates: TxData,
+}
+
+impl Date {
+    pub const MAX: u64 = 1_099_511_627_776;
+
+    // The date at which what leaves at this one arrives.
+    pub fn after(self, delay: Delay) -> Date
+        requires { ⌜ (self .0 ≤ 2 ^ 40) × (delay .0 ≤ 2 ^ 40) ⌝ }
+        ensures { λ r. ⌜ r .0 ≡ self .0 + delay .0 ⌝ }
+    {
+        Date(self.0 + delay.0)
+    }
+}
+
+impl Volume {
+    pub const MAX: u64 = 274_877_906_944;
+}
+
+impl Rate {
+    pub const MAX: u64 = 274_877_906_944;
+}
+
+impl Delay {
+    pub const MAX: u64 = 1_099_511_627_776;
+}
+
+impl Priority {
+    pub const MAX: u8 = 127;
+}
+
+impl Interval {
+    pub const LENGTH_MAX: u64 = 16_777_216;
+
+    // Is this a contact's window? (contact.rs: ContactInfo::try_init, with 01's limits)
+    pub fn is_window(self) -> bool
+        ensures { λ r. ⌜ r ≡ windowOk self ⌝ }
+    {
+        let a = self.start.0;
+        let b = self.end.0;
+        if b <= a {
+            return false;
+        }
+        if Date::MAX < b {
+            return false;
+        }
+        b - a <= Interval::LENGTH_MAX
+    }
+}
+
+impl Bundle {
+    // Are the asked time, the size and the priority inside their limits?
+    pub fn ok_at(self, at: Date) -> bool
+        ensures { λ r. ⌜ r ≡ bundleOk at self ⌝ }
+    {
+        let t = at.0;
+        let v = self.size.0;
+        let p = self.priority.0;
+        if Date::MAX < t {
+            return false;
+        }
+        if v < 1 {
+            return false;
+        }
+        if Volume::MAX < v {
+            return false;
+        }
+        p <= Priority::MAX
+    }
+}
+
+impl Offer {
+    pub fn refused(number: u8) -> Offer
+        ensures { λ r. ⌜ r ≡ refused number ⌝ }
+    {
+        let none = Interval {
+            start: Date(0),
+            end: Date(0),
+        };
+        Offer {
+            number: number,
+            dates: TxData {
+                send: none,
+                recv: none,
+            },
+        }
+    }
+}
+
+pub fn later(a: Date, b: Date) -> Date
+    ensures { λ r. ⌜ r .0 ≡ max (a .0) (b .0) ⌝ }
+{
+    if a.0 <= b.0 { b } else { a }
+}
+
+pub fn sooner(a: Date, b: Date) -> Date
+    ensures { λ r. ⌜ r .0 ≡ min (a .0) (b .0) ⌝ }
+{
+    if a.0 <= b.0 { a } else { b }
+}
