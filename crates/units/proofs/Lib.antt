@@ -1,3 +1,9 @@
 pub mod Logic
 pub mod Numbers
 pub mod Loop
+pub mod Arrays
+pub mod Unused
+pub mod Places
+pub mod Counted
+pub mod Windows
+pub mod Determined

@@ -38,6 +38,11 @@ unfolding both
 both-not true q e = e
 both-not false q e = refl
 
+pub both-only : (p q : Bool) → q ≡ true → both p q ≡ p
+unfolding both
+both-only true q e = e
+both-only false q e = refl
+
 -- two tests that tell the same are equal
 pub same-test : (p q : Bool) → (p ≡ true → q ≡ true) → (q ≡ true → p ≡ true) → p ≡ q
 same-test true q f g = sym (f refl)

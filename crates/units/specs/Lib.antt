@@ -1,3 +1,4 @@
 pub mod Logic
 pub mod Limits
 pub mod Answer
+pub mod Arrays

@@ -33,10 +33,13 @@ windowOk w =
     (both (leb (w .end .0) dateMax)
     (leb (w .end .0 - w .start .0) lengthMax))
 
--- the asked time 0 to 2^40, the size 1 to 2^38, the priority 0 to 127
-unfoldable pub bundleOk : Date → Bundle → Bool
-bundleOk at b =
-    both (leb (at .0) dateMax)
-    (both (leb 1 (b .size .0))
+-- the size 1 to 2^38, the priority 0 to 127
+unfoldable pub loadOk : Bundle → Bool
+loadOk b =
+    both (leb 1 (b .size .0))
     (both (leb (b .size .0) volumeMax)
-    (leb (b .priority .0) priorityMax)))
+    (leb (b .priority .0) priorityMax))
+
+-- and the asked time 0 to 2^40
+unfoldable pub bundleOk : Date → Bundle → Bool
+bundleOk at b = both (leb (at .0) dateMax) (loadOk b)

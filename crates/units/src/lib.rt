@@ -1,8 +1,10 @@
 // The numbers of document 01 with their units, and the words that every manager answers in.
 ghost use mathlib.Core.Path.{_≡_};
 ghost use Prim.Native.Nat.{_+_, _≤_, _^_, min, max};
-ghost use Rattle.units.specs.Limits.{bundleOk, windowOk};
-ghost use Rattle.units.specs.Answer.{refused};
+ghost use Rattle.units.specs.Limits.{bundleOk, loadOk, windowOk};
+ghost use Rattle.units.specs.Answer.{refused, sameDates, offers};
+
+pub mod refusal;
 
 pub struct Date(pub u64);
 
@@ -90,12 +92,18 @@ impl Bundle {
     pub fn ok_at(self, at: Date) -> bool
         ensures { λ r. ⌜ r ≡ bundleOk at self ⌝ }
     {
-        let t = at.0;
-        let v = self.size.0;
-        let p = self.priority.0;
-        if Date::MAX < t {
+        if Date::MAX < at.0 {
             return false;
         }
+        self.ok()
+    }
+
+    // Are the size and the priority inside their limits?
+    pub fn ok(self) -> bool
+        ensures { λ r. ⌜ r ≡ loadOk self ⌝ }
+    {
+        let v = self.size.0;
+        let p = self.priority.0;
         if v < 1 {
             return false;
         }
@@ -106,7 +114,39 @@ impl Bundle {
     }
 }
 
+impl TxData {
+    pub fn same(self, other: TxData) -> bool
+        ensures { λ r. ⌜ r ≡ sameDates self other ⌝ }
+    {
+        let s = self.send;
+        let t = other.send;
+        let u = self.recv;
+        let v = other.recv;
+        if s.start.0 != t.start.0 {
+            return false;
+        }
+        if s.end.0 != t.end.0 {
+            return false;
+        }
+        if u.start.0 != v.start.0 {
+            return false;
+        }
+        u.end.0 == v.end.0
+    }
+}
+
 impl Offer {
+    // Is this an offer with these four dates?
+    pub fn is(self, dates: TxData) -> bool
+        ensures { λ r. ⌜ r ≡ offers self dates ⌝ }
+    {
+        let own = self.dates;
+        if self.number != 0 {
+            return false;
+        }
+        own.same(dates)
+    }
+
     pub fn refused(number: u8) -> Offer
         ensures { λ r. ⌜ r ≡ refused number ⌝ }
     {

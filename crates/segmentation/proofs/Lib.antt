@@ -1,0 +1,11 @@
+pub mod Capacity
+pub mod Segment
+pub mod Reach
+pub mod SegEnd
+pub mod Exact
+pub mod EndLaws
+pub mod RateLoop
+pub mod DelayLoop
+pub mod DelayLaws
+pub mod Unique
+pub mod Cases

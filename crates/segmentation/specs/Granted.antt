@@ -1,0 +1,43 @@
+-- What the rules take for granted of their segments: a record's test shows it before they are called. No promise rests on it.
+use Prim.Native.Nat.{ℕ, _+_, _-_, _*_, _<_, _≤_, _^_}
+use mathlib.Core.Path.{_≡_}
+use mathlib.Core.List.{List, [], _∷_}
+use Rattle.segmentation.specs.declared.VolumeSegment.{VolumeSegment}
+use Rattle.segmentation.specs.declared.DelaySegment.{DelaySegment}
+use Rattle.segmentation.specs.declared.Delays.{Delays}
+use Rattle.segmentation.specs.declared.Delays.the-variants.{Of, None}
+use Rattle.segmentation.specs.Capacity.{rateOf}
+
+-- the segment is not empty, is within the limits, and holds its rate times its length
+pub record SegOk (s : VolumeSegment) : Type 0 where
+  pub some : s .start .0 < s .end .0
+  pub short : s .end .0 ≤ s .start .0 + 2 ^ 24
+  pub date : s .end .0 ≤ 2 ^ 40
+  pub small : s .volume .0 ≤ 2 ^ 38
+  pub whole : s .volume .0 ≡ rateOf s * (s .end .0 - s .start .0)
+
+-- the segments follow each other without a gap, from the date on
+unfoldable pub Run : ℕ → List VolumeSegment → Type 0
+Run a [] = Unit
+Run a (s ∷ l) = (s .start .0 ≡ a) × (SegOk s) × (Run (s .end .0) l)
+
+-- they do so from some date on
+pub record Runs (l : List VolumeSegment) : Type 0 where
+  pub from : ℕ
+  pub run : Run from l
+
+-- and that date is not after this one
+pub record Covers (a : ℕ) (l : List VolumeSegment) : Type 0 where
+  pub from : ℕ
+  pub below : from ≤ a
+  pub run : Run from l
+
+-- delays within their limits
+abbrev pub Short : Delays → Type 0
+Short (Of a b) = (a .0 ≤ 2 ^ 40) × (b .0 ≤ 2 ^ 40)
+Short None = Unit
+
+-- each delay is within its limit
+unfoldable pub AllShort : List DelaySegment → Type 0
+AllShort [] = Unit
+AllShort (d ∷ l) = (d .delay .0 ≤ 2 ^ 40) × (AllShort l)

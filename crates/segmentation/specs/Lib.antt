@@ -1,0 +1,4 @@
+pub mod Capacity
+pub mod End
+pub mod Delay
+pub mod Granted

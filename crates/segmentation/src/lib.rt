@@ -1,0 +1,233 @@
+// The rounding and lookup rules (segmentation/mod.rs): the end of a send, the volume between two dates, the delays.
+use units::Date;
+use units::Delay;
+use units::Interval;
+use units::Offer;
+use units::Rate;
+use units::TxData;
+use units::Volume;
+ghost use mathlib.Core.Path.{_≡_};
+ghost use Prim.Native.Nat.{ℕ, _+_, _-_, _*_, _/_, _<_, _≤_, _^_, min, max};
+ghost use lib.ListN.{length, take, drop};
+ghost use mathlib.Core.List.{List, [], _∷_};
+ghost use Rattle.segmentation.specs.Capacity.{rateOf, capacity};
+ghost use Rattle.segmentation.specs.End.{byDeadline, endOf};
+ghost use Rattle.segmentation.specs.Delay.{delaysOf, answerOf, answerWith, Placed};
+ghost use Rattle.segmentation.specs.Granted.{SegOk, Covers, Runs, Short, AllShort};
+
+// Segment<DataRate>: what an opening is given.
+pub struct RateSegment {
+    pub start: Date,
+    pub end: Date,
+    pub rate: Rate,
+}
+
+// Segment<Volume>: a rate times its length, or a listed stretch of free time with its volume.
+pub struct VolumeSegment {
+    pub start: Date,
+    pub end: Date,
+    pub volume: Volume,
+}
+
+// Segment<Duration>
+pub struct DelaySegment {
+    pub start: Date,
+    pub end: Date,
+    pub delay: Delay,
+}
+
+pub enum End {
+    At(Date),
+    None,
+}
+
+// The delays at the start and at the end of a send interval.
+pub enum Delays {
+    Of(Delay, Delay),
+    None,
+}
+
+impl RateSegment {
+    pub const COUNT_MAX: usize = 16;
+}
+
+impl DelaySegment {
+    pub const COUNT_MAX: usize = 16;
+}
+
+impl VolumeSegment {
+    // From dates to a volume: what the segment still carries from the date on.
+    pub fn carried(self, from: Date) -> Volume
+        requires { ⌜ SegOk self ⌝ ∗ ⌜ (self .start .0 ≤ from .0) × (from .0 ≤ self .end .0) ⌝ }
+        ensures { λ r. ⌜ r .0 ≡ rateOf self * (self .end .0 - from .0) ⌝ }
+    {
+        Volume(self.volume.0 * (self.end.0 - from.0) / (self.end.0 - self.start.0))
+    }
+
+    // From a volume to a date: when the rest is sent that starts at the date and that the segment covers.
+    pub fn sent(self, from: Date, rest: Volume) -> Date
+        requires { ⌜ SegOk self ⌝ ∗ ⌜ (from .0 ≤ self .end .0) × ((0 < rest .0) × (rest .0 ≤ self .volume .0)) ⌝ }
+        ensures { λ r. ⌜ r .0 ≡ from .0 + rest .0 / rateOf self ⌝ }
+    {
+        Date(from.0 + rest.0 * (self.end.0 - self.start.0) / self.volume.0)
+    }
+
+    // What the segment carries between two dates.
+    pub fn part(self, start: Date, end: Date) -> Volume
+        requires { ⌜ SegOk self ⌝ }
+        ensures { λ r. ⌜ r .0 ≡ capacity (self ∷ []) (start .0) (end .0) ⌝ ∗ ⌜ r .0 ≤ 2 ^ 38 ⌝ }
+    {
+        let lo = units::later(start, self.start);
+        let hi = units::sooner(end, self.end);
+        if hi.0 <= lo.0 {
+            return Volume(0);
+        }
+        Volume(self.volume.0 * (hi.0 - lo.0) / (self.end.0 - self.start.0))
+    }
+}
+
+// An end, if it is not after the deadline.
+pub fn by_deadline(end: Date, deadline: Date) -> End
+    ensures { λ r. ⌜ r ≡ byDeadline (deadline .0) (end .0) ⌝ }
+{
+    if end.0 <= deadline.0 {
+        End::At(end)
+    } else {
+        End::None
+    }
+}
+
+// get_tx_end: the end of a send of this size from this start, by the deadline, or none.
+pub fn find_end(
+    rates: [VolumeSegment; RateSegment::COUNT_MAX],
+    count: usize,
+    start: Date,
+    size: Volume,
+    deadline: Date,
+) -> End
+    requires { ⌜ count ≤ 16 ⌝ ∗ ⌜ 0 < size .0 ⌝ ∗ ⌜ Covers (start .0) (take count rates) ⌝ }
+    ensures { λ r. ⌜ r ≡ endOf (take count rates) (start .0) (size .0) (deadline .0) ⌝ }
+{
+    let mut i: usize = 0;
+    let mut at = start;
+    let mut rest = size;
+    loop {
+        if count <= i {
+            break End::None;
+        }
+        let s = rates[i];
+        if at.0 <= s.end.0 {
+            let here = s.carried(at);
+            if rest.0 <= here.0 {
+                break by_deadline(s.sent(at, rest), deadline);
+            }
+            rest = Volume(rest.0 - here.0);
+            at = s.end;
+        }
+        i += 1;
+    }
+}
+
+// get_volume: the exact capacity between two dates.
+pub fn volume_between(
+    rates: [VolumeSegment; RateSegment::COUNT_MAX],
+    count: usize,
+    start: Date,
+    end: Date,
+) -> Volume
+    requires { ⌜ count ≤ 16 ⌝ ∗ ⌜ Runs (take count rates) ⌝ }
+    ensures { λ r. ⌜ r .0 ≡ capacity (take count rates) (start .0) (end .0) ⌝ }
+{
+    let mut i: usize = 0;
+    let mut sum = Volume(0);
+    loop {
+        if count <= i {
+            break sum;
+        }
+        let s = rates[i];
+        let more = s.part(start, end);
+        sum = Volume(sum.0 + more.0);
+        i += 1;
+    }
+}
+
+// The place of the first delay segment, from a place on, whose end is not before the date; the count, where there is none.
+pub fn delay_place(
+    delays: [DelaySegment; DelaySegment::COUNT_MAX],
+    count: usize,
+    from: usize,
+    date: Date,
+) -> usize
+    requires { ⌜ count ≤ 16 ⌝ ∗ ⌜ from ≤ count ⌝ }
+    ensures { λ r. ⌜ Placed (take count delays) count from (date .0) r ⌝ }
+{
+    let mut i = from;
+    loop {
+        if count <= i {
+            break count;
+        }
+        let s = delays[i];
+        if date.0 <= s.end.0 {
+            break i;
+        }
+        i += 1;
+    }
+}
+
+// get_delays: the delays at both ends of a send interval; the end's lookup goes on from the start's.
+pub fn find_delays(
+    delays: [DelaySegment; DelaySegment::COUNT_MAX],
+    count: usize,
+    send: Interval,
+) -> Delays
+    requires { ⌜ count ≤ 16 ⌝ }
+    ensures { λ r. ⌜ r ≡ delaysOf (take count delays) (send .start .0) (send .end .0) ⌝ }
+{
+    let start = send.start;
+    let end = send.end;
+    let i = delay_place(delays, count, 0, start);
+    let j = delay_place(delays, count, i, end);
+    if count <= j {
+        return Delays::None;
+    }
+    let a = delays[i];
+    let b = delays[j];
+    let first = a.delay;
+    let last = b.delay;
+    Delays::Of(first, last)
+}
+
+// The answer to a dry run that found this send interval.
+pub fn answer(send: Interval, delays: Delays) -> Offer
+    requires { ⌜ (send .start .0 ≤ 2 ^ 40) × (send .end .0 ≤ 2 ^ 40) ⌝ ∗ ⌜ Short delays ⌝ }
+    ensures { λ r. ⌜ r ≡ answerOf (send .start .0) (send .end .0) delays ⌝ }
+{
+    let start = send.start;
+    let end = send.end;
+    let Delays::Of(a, b) = delays else {
+        return Offer::refused(units::refusal::NO_DELAY);
+    };
+    Offer {
+        number: 0,
+        dates: TxData {
+            send: send,
+            recv: Interval {
+                start: start.after(a),
+                end: end.after(b),
+            },
+        },
+    }
+}
+
+// The same, with the delays looked up.
+pub fn answer_at(
+    delays: [DelaySegment; DelaySegment::COUNT_MAX],
+    count: usize,
+    send: Interval,
+) -> Offer
+    requires { ⌜ count ≤ 16 ⌝ ∗ ⌜ AllShort (take count delays) ⌝ ∗ ⌜ (send .start .0 ≤ 2 ^ 40) × (send .end .0 ≤ 2 ^ 40) ⌝ }
+    ensures { λ r. ⌜ r ≡ answerWith (take count delays) send ⌝ }
+{
+    let found = find_delays(delays, count, send);
+    answer(send, found)
+}
