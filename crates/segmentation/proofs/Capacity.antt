@@ -186,13 +186,13 @@ module _ (s : VolumeSegment) (ok : SegOk s) where
         omega (arith, first, then, none, here, last)
 
 -- the sum of the segments' volumes
-unfoldable pub totalOf : List VolumeSegment → ℕ
-totalOf [] = 0
-totalOf (s ∷ l) = s .volume .0 + totalOf l
+unfoldable pub volumeSum : List VolumeSegment → ℕ
+volumeSum [] = 0
+volumeSum (s ∷ l) = s .volume .0 + volumeSum l
 
 -- the total volume is the window's capacity
-pub total-is : (l : List VolumeSegment) (a : ℕ) → Run a l → totalOf l ≡ capacity l a (closeOf a l)
-unfolding Run closeOf totalOf
+pub total-is : (l : List VolumeSegment) (a : ℕ) → Run a l → volumeSum l ≡ capacity l a (closeOf a l)
+unfolding Run closeOf volumeSum
 total-is [] a r = sym (cap-none a (a - a))
 total-is (s ∷ l) a r =
     let ok : SegOk s = r .1 in

@@ -6,7 +6,7 @@ use mathlib.Core.List.{List, [], _∷_, _++_, map}
 use native.Mathlib.Nat.{sub-zero}
 use native.Mathlib.Numerals.{add-one}
 use native.Mathlib.Omega.{arith}
-use lib.ListN.{length, take, drop, getD, set, replicate, length-take, length-append, length-replicate, length-map, List·getD-map}
+use lib.ListN.{length, take, drop, getD, set, replicate, length-append, length-replicate, length-map, List·getD-map}
 use lib.Seq.{set-at, append-snoc, take-at, drop-at, take-suc, length-take-le}
 use Rattle.units.specs.Logic.{allOf}
 use Rattle.units.specs.Arrays.{padded}

@@ -7,3 +7,8 @@ pub mod Places
 pub mod Counted
 pub mod Windows
 pub mod Determined
+pub mod Padded
+pub mod Stores
+pub mod Choice
+pub mod Each
+pub mod Loads

@@ -1,0 +1,153 @@
+//! The frames that are compared: seeded, in dialogues that begin with an
+//! opening, each frame with the oracle's answer.
+
+pub mod dialogues;
+pub mod exhaustive;
+pub mod list;
+pub mod malformed;
+pub mod openings;
+pub mod rng;
+pub mod sink;
+
+use dialogues::Manager;
+use exhaustive::Tiny;
+use rng::Rng;
+use sink::{Run, Sink};
+
+use crate::stated::refusals;
+
+#[derive(Clone, Copy, Debug, PartialEq, Eq)]
+pub enum Kind {
+    Free,
+    Priority,
+    Poly,
+    Queue,
+    Malformed,
+    All,
+}
+
+impl Kind {
+    pub const NAMES: [(&str, Kind); 6] = [
+        ("free", Kind::Free),
+        ("priority", Kind::Priority),
+        ("poly", Kind::Poly),
+        ("queue", Kind::Queue),
+        ("malformed", Kind::Malformed),
+        ("all", Kind::All),
+    ];
+
+    pub fn named(name: &str) -> Option<Kind> {
+        let found = Self::NAMES.iter().find(|(known, _)| *known == name);
+        found.map(|(_, kind)| *kind)
+    }
+}
+
+/// A source of dialogues of one manager. Tiny contacts take every second turn
+/// until all have been asked.
+struct Source {
+    manager: Manager,
+    tiny: std::vec::IntoIter<Tiny>,
+    in_tiny: usize,
+    in_random: usize,
+}
+
+impl Source {
+    fn new(manager: Manager) -> Self {
+        Source {
+            manager,
+            tiny: exhaustive::contacts(manager).into_iter(),
+            in_tiny: 0,
+            in_random: 0,
+        }
+    }
+
+    fn frames(&self) -> usize {
+        self.in_tiny + self.in_random
+    }
+
+    fn dialogue(&mut self, rng: &mut Rng, sink: &mut Sink) {
+        let before = sink.count();
+        if self.in_tiny <= self.in_random
+            && let Some(contact) = self.tiny.next()
+        {
+            contact.ask_all(sink);
+            self.in_tiny += sink.count() - before;
+        } else {
+            dialogues::dialogue(rng, self.manager, sink);
+            self.in_random += sink.count() - before;
+        }
+    }
+}
+
+/// All frames of one seed and kind, in runs.
+pub struct Stream {
+    rng: Rng,
+    sources: Vec<Source>,
+    /// The share of malformed dialogues: all, one in a few, or none.
+    malformed_every: Option<usize>,
+}
+
+/// Among all kinds, one dialogue in so many is malformed.
+const MALFORMED_SHARE: usize = 6;
+
+impl Stream {
+    pub fn new(kind: Kind, seed: u64) -> Self {
+        let managers: &[Manager] = match kind {
+            Kind::Free => &[Manager::Free],
+            Kind::Priority => &[Manager::Priority],
+            Kind::Poly => &[Manager::Poly],
+            Kind::Queue => &[Manager::Queue],
+            Kind::Malformed => &[],
+            Kind::All => &[
+                Manager::Free,
+                Manager::Priority,
+                Manager::Poly,
+                Manager::Queue,
+            ],
+        };
+        Stream {
+            rng: Rng::new(seed),
+            sources: managers
+                .iter()
+                .map(|manager| Source::new(*manager))
+                .collect(),
+            malformed_every: match kind {
+                Kind::Malformed => Some(1),
+                Kind::All => Some(MALFORMED_SHARE),
+                _ => None,
+            },
+        }
+    }
+
+    /// A run of at least so many frames: the last dialogue is finished.
+    pub fn run(&mut self, frames: usize) -> Run {
+        let mut sink = Sink::new();
+        self.ask_nothing_open(&mut sink);
+        while sink.count() < frames {
+            self.dialogue(&mut sink);
+        }
+        sink.finish()
+    }
+
+    /// Each run begins with nothing open, and asks so.
+    fn ask_nothing_open(&mut self, sink: &mut Sink) {
+        for step in refusals::nothing_open().iter().flat_map(|talk| &talk.steps) {
+            let _ = sink.line(&step.line);
+        }
+        let _ = sink.line(&malformed::line(&mut self.rng));
+    }
+
+    fn dialogue(&mut self, sink: &mut Sink) {
+        if let Some(every) = self.malformed_every
+            && self.rng.once_in(every)
+        {
+            return dialogues::malformed_dialogue(&mut self.rng, sink);
+        }
+        let behind = self
+            .sources
+            .iter_mut()
+            .min_by_key(|source| source.frames())
+            .expect("a kind without managers is malformed only");
+        behind.dialogue(&mut self.rng, sink);
+    }
+}

@@ -1,0 +1,72 @@
+//! Frames with their expected answers, in the order in which they are fed.
+
+use crate::Oracle;
+use crate::frames::{self, Answer, Content, Dates, Frame, Request, Span};
+use crate::refusal::Refusal;
+
+/// One run of a program: its frames and the answers that are expected, each
+/// line with its line end.
+#[derive(Default)]
+pub struct Run {
+    pub frames: Vec<u8>,
+    pub answers: Vec<u8>,
+    pub count: usize,
+}
+
+impl Run {
+    /// The frames without their line ends.
+    pub fn lines(&self) -> impl Iterator<Item = &[u8]> {
+        let lines = self.frames.split_inclusive(|byte| *byte == b'\n');
+        lines.map(|line| line.strip_suffix(b"\n").unwrap_or(line))
+    }
+}
+
+/// A run in the making: it begins with nothing open.
+#[derive(Default)]
+pub struct Sink {
+    oracle: Oracle,
+    run: Run,
+}
+
+impl Sink {
+    pub fn new() -> Self {
+        Self::default()
+    }
+
+    pub fn count(&self) -> usize {
+        self.run.count
+    }
+
+    pub fn finish(self) -> Run {
+        self.run
+    }
+
+    pub fn ask(&mut self, frame: &Frame) -> Answer {
+        self.line(&frame.encode())
+    }
+
+    /// A line as it stands, right or malformed.
+    pub fn line(&mut self, line: &[u8]) -> Answer {
+        assert!(!line.contains(&b'\n'), "a line end inside a line");
+        let answer = self.oracle.answer_line(line);
+        self.run.frames.extend_from_slice(line);
+        self.run.frames.push(b'\n');
+        frames::encode_answer(&answer, &mut self.run.answers);
+        self.run.answers.push(b'\n');
+        self.run.count += 1;
+        answer
+    }
+
+    /// What a dry run would answer, without a frame.
+    pub fn look(&self, request: Request) -> Result<Dates, Refusal> {
+        self.oracle.dry_run(request)
+    }
+
+    /// What is listed, without a frame; nothing for queues.
+    pub fn listed(&mut self) -> Vec<Span> {
+        match self.oracle.answer_frame(&Frame::List) {
+            Ok(Content::Segments(spans)) => spans,
+            _ => Vec::new(),
+        }
+    }
+}

@@ -1,0 +1,25 @@
+//! The original contact managers behind document 01's frames.
+//!
+//! Data goes one way: line, frame ([`frames`]), record ([`state`]), the
+//! original's calls ([`calls`]), answer, line. Above that stand the dialogues
+//! that are compared ([`generate`]) and the comparison itself ([`drive`]).
+
+/// The original, built unchanged by `build.rs`.
+extern crate asabr;
+
+pub mod calls;
+pub mod drive;
+pub mod frames;
+pub mod free;
+pub mod generate;
+pub mod guard;
+pub mod limits;
+pub mod poly;
+pub mod priority;
+pub mod queue;
+pub mod refusal;
+pub mod segmented;
+pub mod state;
+pub mod stated;
+
+pub use state::Oracle;

@@ -1,0 +1,36 @@
+//! The numbers an answer begins with.
+
+/// Document 01's refusals, under its numbers.
+#[derive(Clone, Copy, Debug, PartialEq, Eq)]
+#[repr(u8)]
+pub enum Refusal {
+    /// The record breaks its rules. Records come from openings only here, so
+    /// this is always "nothing is open".
+    NothingOpen = 1,
+    Bundle = 2,
+    Window = 3,
+    Rates = 4,
+    Delays = 5,
+    Volume = 6,
+    NoOffer = 7,
+    NoDelay = 8,
+    NotOffered = 9,
+    ListFull = 10,
+    Polynomial = 11,
+    NotManual = 12,
+    QueueBound = 13,
+    Classes = 14,
+    /// Not in document 01: the original panicked, or answered what no answer
+    /// can hold. No program writes it, so it always shows as a difference.
+    Fault = 0xfe,
+    Malformed = 0xff,
+}
+
+/// The number of an answer that is no refusal.
+pub const DONE: u8 = 0;
+
+impl Refusal {
+    pub fn number(self) -> u8 {
+        self as u8
+    }
+}

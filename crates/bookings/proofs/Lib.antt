@@ -1,0 +1,12 @@
+pub mod Values
+pub mod Forms
+pub mod CoverLaws
+pub mod SetLaws
+pub mod Instants
+pub mod CutLaws
+pub mod CutLoop
+pub mod SearchLaws
+pub mod RunLaws
+pub mod SetList
+pub mod Unique
+pub mod Cases

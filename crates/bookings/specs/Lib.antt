@@ -1,0 +1,4 @@
+pub mod Listed
+pub mod Search
+pub mod Cut
+pub mod Granted

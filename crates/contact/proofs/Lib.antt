@@ -1,0 +1,10 @@
+pub mod Spans
+pub mod Volumes
+pub mod Rates
+pub mod Delays
+pub mod Refusals
+pub mod Records
+pub mod Sound
+pub mod Fresh
+pub mod Unique
+pub mod Lookup

@@ -1,0 +1,36 @@
+-- The delay lookups of a contact that keeps its rules: short, and found for every date of the window.
+use Prim.Native.Nat.{ℕ, _<_, _≤_, _^_}
+use mathlib.Core.Bool.{true}
+use mathlib.Core.Path.{_≡_, sym, ap, _∙_}
+use mathlib.Core.List.{List, [], _∷_}
+use native.Mathlib.Omega.{arith}
+use lib.ListN.{length, take, length-take}
+use borrow.Author.Tests.{leb-true, eqb-true}
+use Rattle.units.specs.Logic.{allOf}
+use Rattle.units.proofs.Logic.{all-head, all-tail}
+use Rattle.segmentation.specs.declared.DelaySegment.{DelaySegment}
+use Rattle.segmentation.specs.Delay.{delaysOf}
+use Rattle.segmentation.specs.Granted.{AllShort}
+use Rattle.segmentation.proofs.DelayLaws.{lastEnd, reaches-last, Finds, delays-find}
+use Rattle.contact.specs.declared.Contact.{Contact}
+use Rattle.contact.specs.Segments.{delaySpan, spans, delayOk}
+use Rattle.contact.specs.Record.{delayList}
+use Rattle.contact.proofs.Spans.{spans-end, spans-rest}
+use Rattle.contact.proofs.Sound.{Sound}
+
+pub all-short : (l : List DelaySegment) → allOf delayOk l ≡ true → AllShort l
+unfolding AllShort
+all-short [] e = tt
+all-short (d ∷ l) e = (leb-true _ _ (all-head delayOk d l e), all-short l (all-tail delayOk d l e))
+
+last-end : (b : ℕ) (l : List DelaySegment) (a : ℕ) → spans delaySpan a b l ≡ true → lastEnd a l ≡ b
+unfolding lastEnd
+last-end b [] a e = eqb-true a b (sym (spans-end delaySpan b a) ∙ e)
+last-end b (s ∷ l) a e = last-end b l (s .end .0) (spans-rest delaySpan b s l a e)
+
+-- 8 is never the answer: both lookups find a segment
+pub contact-finds : (c : Contact) → Sound c → length (c .delays) ≡ 16 → (s e : ℕ) → s ≤ e → e ≤ c .window .end .0 → Finds (delaysOf (delayList c) s e)
+contact-finds c q len s e h k =
+    let some : 0 < length (delayList c) = simp length-take (omega (arith, q .delays .0, q .delays .1)) in
+    let end : lastEnd (c .window .start .0) (delayList c) ≡ c .window .end .0 = last-end _ _ _ (q .covered) in
+    delays-find (delayList c) s e h (reaches-last (delayList c) (c .window .start .0) e some (omega arith))

@@ -1,0 +1,91 @@
+-- `contact::opening::total_of` meets its contract: from the sum reached on, the segments left have the answer of all.
+use borrow.Author.Needs.{needs}
+use Prim.Native.Nat.{_-_, _≤_, _^_}
+use mathlib.Core.Path.{_≡_, sym, _∙_}
+use native.Mathlib.Omega.{arith}
+use lib.ListN.{length, take}
+use Rattle.units.proofs.Loop.{Left, left-first}
+use Rattle.units.proofs.Places.{place-end, place-here, place-step}
+use Rattle.contact.proofs.Rates.{forward-at, totalFrom, total-first, total-end, total-fast, total-over, total-go}
+use Rattle.contact.proofs.opening.total_of.Statement.{statement}
+use Rattle.contact.proofs.opening.total_of.Tie as tie
+
+abbrev Inv-loop : tie.InvT-loop
+Inv-loop count rates i₀ sum₀ i sum = (Left totalFrom (take count rates) count (sum₀ .0) i (sum .0)) × (sum .0 ≤ 2 ^ 38)
+
+abbrev μ-loop : tie.MeasureT-loop
+μ-loop count rates i₀ sum₀ i sum = count - i
+
+size : (c : tie.Start Inv-loop μ-loop) → c .args .count ≤ length (c .args .t1)
+size c = let e : length (c .args .t1) ≡ 16 = search needs in omega arith
+
+loop-holds : tie.Need-loop-holds Inv-loop μ-loop
+loop-holds c = (left-first _ _ _ _, omega arith)
+
+mul-s : tie.Need-mul-s Inv-loop μ-loop
+mul-s c = search needs
+
+array-copy-out-s : tie.Need-array-copy-out-s Inv-loop μ-loop
+array-copy-out-s c = search needs
+
+volume-of-requires : tie.Need-volume-of-requires Inv-loop μ-loop
+volume-of-requires c κs =
+    let one = c .before .before .before in
+    record {
+      spanning = forward-at _ _ _ _ (size (one .before .before)) (one .if1 .left) (one .before .before .pre .1);
+      small = omega arith;
+    }
+
+sub-if3 : tie.Need-sub-if3 Inv-loop μ-loop
+sub-if3 c = search needs
+
+add-t14 : tie.Need-add-t14 Inv-loop μ-loop
+add-t14 c = search needs
+
+add-i : tie.Need-add-i Inv-loop μ-loop
+add-i c = search needs
+
+loop-less : tie.Need-loop-less Inv-loop μ-loop
+loop-less c = search needs
+
+loop-again : tie.Need-loop-again Inv-loop μ-loop
+loop-again c =
+    let v = c .before .before .before .before .before in
+    let one = v .before .before .before .before in (
+      place-step _ _ _ _ _ _ (one .before .loop .inv .0) _ (size (one .before .before)) (one .if1 .left) _ (total-go _ _ _ _ (v .volume-of .ensures) (omega arith)),
+      omega arith,
+    )
+
+returns : tie.Need-returns Inv-loop μ-loop
+returns c =
+    sym (total-first _ ∙ place-end _ _ _ _ _ _ (c .before .loop .inv .0) (c .if1 .taken) ∙ total-end _ (c .before .loop .inv .1))
+
+returns-2 : tie.Need-returns-2 Inv-loop μ-loop
+returns-2 c =
+    let one = c .before .before .before in
+    sym (total-first _ ∙ place-here _ _ _ _ _ _ (one .before .loop .inv .0) _ (size (one .before .before)) (one .if1 .left) ∙ total-fast _ _ _ (c .if2 .taken))
+
+returns-3 : tie.Need-returns-3 Inv-loop μ-loop
+returns-3 c =
+    let v = c .before .before .before in
+    let one = v .before .before .before .before in
+    sym (total-first _ ∙ place-here _ _ _ _ _ _ (one .before .loop .inv .0) _ (size (one .before .before)) (one .if1 .left) ∙ total-over _ _ _ _ (v .volume-of .ensures) (c .if3 .taken))
+
+pub total-of-spec : {M : Type 1} → statement M
+total-of-spec =
+    tie.close
+    (tie.spec
+    Inv-loop
+    μ-loop
+    loop-holds
+    mul-s
+    array-copy-out-s
+    volume-of-requires
+    sub-if3
+    add-t14
+    add-i
+    loop-less
+    loop-again
+    returns
+    returns-2
+    returns-3)

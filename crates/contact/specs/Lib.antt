@@ -1,0 +1,4 @@
+pub mod Segments
+pub mod Open
+pub mod Record
+pub mod Granted

@@ -1,0 +1,27 @@
+-- 01, "Records": unused places are zero, and all that the opening tests holds; volume segments hold rate times length.
+use Prim.Native.Nat.{ℕ}
+use mathlib.Core.Bool.{Bool}
+use lib.Dec.{eqb}
+use lib.ListN.{take, drop}
+use mathlib.Core.List.{List, map}
+use Rattle.units.specs.Logic.{both, allOf}
+use Rattle.segmentation.specs.declared.VolumeSegment.{VolumeSegment}
+use Rattle.segmentation.specs.declared.DelaySegment.{DelaySegment}
+use Rattle.contact.specs.declared.Contact.{Contact}
+use Rattle.contact.specs.Segments.{rateSegment, wholeOf, noVolume, noDelay}
+use Rattle.contact.specs.Open.{openContact}
+
+-- the rate segments and the delay segments of a contact
+abbrev pub ratesOf : Contact → List VolumeSegment
+ratesOf c = take (c .«rate_count») (c .rates)
+
+abbrev pub delayList : Contact → List DelaySegment
+delayList c = take (c .«delay_count») (c .delays)
+
+-- an opening with the contact's own figures is done, its volumes are rates times lengths, and nothing is in an unused place
+unfoldable pub contactOk : Contact → Bool
+contactOk c =
+    both (eqb (openContact (c .window) (map rateSegment (c .rates)) (c .«rate_count») (c .delays) (c .«delay_count») .number) 0)
+    (both (allOf wholeOf (take (c .«rate_count») (c .rates)))
+    (both (allOf noVolume (drop (c .«rate_count») (c .rates)))
+    (allOf noDelay (drop (c .«delay_count») (c .delays)))))

@@ -1,0 +1,106 @@
+-- The cut of a record's list: its two answers, and that the list it leaves keeps the record's rules.
+use Prim.Native.Nat.{ℕ, _<_, _≤_}
+use mathlib.Core.Bool.{true}
+use mathlib.Core.Path.{_≡_, refl, ap, _∙_}
+use mathlib.Core.List.{List}
+use mathlib.Core.Logic.{⊎-elim, _⊎_, inl, inr}
+use native.Mathlib.Omega.{arith}
+use lib.ListN.{length, drop, length-take}
+use lib.Seq.{getD-take}
+use Rattle.units.specs.Logic.{both, allOf}
+use Rattle.units.proofs.Numbers.{le-or-lt}
+use Rattle.units.proofs.Arrays.{length-padded, take-padded, unused-padded}
+use Rattle.segmentation.specs.declared.VolumeSegment.{VolumeSegment}
+use Rattle.contact.specs.Segments.{zeroVolume, noVolume}
+use Rattle.free_list.specs.declared.FreeList.{FreeList}
+use Rattle.free_list.specs.declared.Cut.{Cut}
+use Rattle.free_list.specs.Listed.{listOk}
+use Rattle.free_list.specs.Cut.{cutOf, listed, listIn, cutList}
+use Rattle.free_list.specs.Granted.{Inside}
+use Rattle.free_list.proofs.ListedLaws.{Listed, true-listed}
+use Rattle.free_list.proofs.Offered.{Offered, offered-at}
+use Rattle.free_list.proofs.CutLaws.{cut-listed, cut-some}
+use Rattle.free_list.proofs.Places.{cut-done, cut-full}
+
+-- the rules of a record's free list
+pub record Kept (l : List VolumeSegment) (n hi : ℕ) (r : FreeList) : Type 0 where
+  pub some : 1 ≤ r .count
+  pub few : r .count ≤ 64
+  pub size : length (r .segments) ≡ 64
+  pub rules : listOk l n hi (listed r) ≡ true
+  pub unused : allOf noVolume (drop (r .count) (r .segments)) ≡ true
+
+zero-unused : noVolume zeroVolume ≡ true
+unfolding noVolume both
+zero-unused = refl
+
+pub listed-in : (f : List VolumeSegment) → listed (listIn f) ≡ f
+listed-in f = take-padded 64 zeroVolume f (length f) refl
+
+pub kept-in : (l : List VolumeSegment) (n hi : ℕ) (f : List VolumeSegment) → 1 ≤ length f → length f ≤ 64 → Listed l n hi f → Kept l n hi (listIn f)
+kept-in l n hi f some few q =
+    record {
+      some = some;
+      few = few;
+      size = length-padded 64 zeroVolume f few;
+      rules = ap (listOk l n hi) (listed-in f) ∙ true-listed l n hi f q;
+      unused = unused-padded 64 zeroVolume noVolume f (length f) refl zero-unused;
+    }
+
+module _ (l : List VolumeSegment) (r : FreeList) (i s e v : ℕ) where
+  abbrev left : List VolumeSegment
+  left = cutOf l (listed r) i s e v
+
+  cut-cases : ((length left ≤ 64) × (cutList l r i s e v ≡ record { number = 0; list = listIn left })) ⊎ (cutList l r i s e v ≡ record { number = 10; list = r })
+  cut-cases =
+      ⊎-elim
+      (λ (h : length left ≤ 64). inl (h, cut-done l r i s e v h))
+      (λ (h : 64 < length left). inr (cut-full l r i s e v h))
+      (le-or-lt (length left) 64)
+
+  -- the number is 0 or 10
+  pub cut-number : (cutList l r i s e v .number ≡ 0) ⊎ (cutList l r i s e v .number ≡ 10)
+  cut-number = ⊎-elim (λ h. inl (ap (λ (x : Cut). x .number) (h .1))) (λ h. inr (ap (λ (x : Cut). x .number) h)) cut-cases
+
+  -- a refusal hands the list back as it came
+  pub cut-refused : (cutList l r i s e v .number ≡ 0 → ⊥) → cutList l r i s e v .list ≡ r
+  cut-refused n =
+      ⊎-elim
+      (λ h. absurd (n (ap (λ (x : Cut). x .number) (h .1))))
+      (λ h. ap (λ (x : Cut). x .list) h)
+      cut-cases
+
+  module _ (z : cutList l r i s e v .number ≡ 0) where
+    cut-zero : (length left ≤ 64) × (cutList l r i s e v .list ≡ listIn left)
+    cut-zero =
+        ⊎-elim
+        (λ h. (h .0, ap (λ (x : Cut). x .list) (h .1)))
+        (λ (h : cutList l r i s e v ≡ record { number = 10; list = r }). absurd (omega (arith, ap (λ (x : Cut). x .number) h)))
+        cut-cases
+
+    pub cut-few : length left ≤ 64
+    cut-few = cut-zero .0
+
+    -- what is listed is the cut of what was listed
+    pub cut-list : cutList l r i s e v .list ≡ listIn left
+    cut-list = cut-zero .1
+
+    pub cut-lists : listed (cutList l r i s e v .list) ≡ left
+    cut-lists = ap listed cut-list ∙ listed-in left
+
+    pub cut-kept : (top n hi : ℕ) → Listed l n hi (listed r) → Offered l top (listed r) i s e v → Kept l n hi (cutList l r i s e v .list)
+    cut-kept top n hi q h =
+        let at = offered-at l top (listed r) i s e v h .0 in
+        rw cut-list (kept-in l n hi left (cut-some l top hi s e v (listed r) i (omega (arith, at))) cut-few (cut-listed l top hi s e v (listed r) n i q h))
+
+  -- an offer of the record's list is one that `cut` takes
+  pub offered-inside-list : (top : ℕ) → r .count ≤ 64 → allOf noVolume (drop (r .count) (r .segments)) ≡ true → Offered l top (listed r) i s e v → Inside r i v
+  offered-inside-list top few unused h =
+      let o = offered-at l top (listed r) i s e v h in
+      let lt : i < r .count = omega (arith, simp length-take at (o .0)) in
+      record {
+        few = few;
+        at = lt;
+        room = rw (getD-take (r .count) (r .segments) i zeroVolume lt) at (o .1 .room);
+        unused = unused;
+      }

@@ -1,0 +1,9 @@
+pub mod ListedLaws
+pub mod WalkLaws
+pub mod Shift
+pub mod Offered
+pub mod OneLoop
+pub mod CutLaws
+pub mod Places
+pub mod CutList
+pub mod Unique

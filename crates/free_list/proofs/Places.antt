@@ -1,0 +1,177 @@
+-- The cut of the list, done in an array with a count and nothing past it: a store at the place, and one more segment after it.
+use Prim.Native.Nat.{ℕ, zero, suc, _+_, _-_, _<_, _≤_}
+use mathlib.Core.Bool.{true}
+use mathlib.Core.Path.{_≡_, refl, sym, ap, _∙_}
+use mathlib.Core.List.{List, [], _∷_, _++_, append-assoc}
+use mathlib.Core.Logic.{⊎-elim}
+use native.Mathlib.Numerals.{add-one}
+use native.Mathlib.Omega.{arith}
+use lib.ListN.{length, take, drop, getD, set, replicate, length-take, length-drop, length-append}
+use lib.Seq.{set-append-left, take-set-lt, take-suc-set, take-append-le, drop-append-add, getD-take, length-take-le}
+use borrow.Author.Tests.{eqb-true, lt-ltb, le-ltb, le-leb, lt-leb}
+use Rattle.units.specs.Logic.{allOf}
+use Rattle.units.specs.Arrays.{padded}
+use Rattle.units.proofs.Logic.{both-fst, both-snd, unless-go, unless-stop}
+use Rattle.units.proofs.Arrays.{take-padded}
+use Rattle.units.proofs.Padded.{padded-is, padded-set}
+use Rattle.units.proofs.Numbers.{le-or-lt}
+use Rattle.segmentation.specs.declared.VolumeSegment.{VolumeSegment}
+use Rattle.contact.specs.Segments.{zeroVolume, noVolume}
+use Rattle.free_list.specs.declared.FreeList.{FreeList}
+use Rattle.free_list.specs.declared.Cut.{Cut}
+use Rattle.free_list.specs.Cut.{restOf, stretchOf, leftOf, cutOf, listed, listIn, cutList}
+use Rattle.free_list.specs.Granted.{Inside, insertOf, storedOf, cutInTwo}
+use Rattle.free_list.proofs.CutLaws.{left-start, left-flat, left-two}
+
+zero-segment : (a b v : ℕ) → a ≡ 0 → b ≡ 0 → v ≡ 0
+    → record { start = record { 0 = a }; end = record { 0 = b }; volume = record { 0 = v } } ≡ zeroVolume
+zero-segment a b v h k m = rw (h, k, m)
+
+-- only the zero segment is none
+pub no-volume-zero : (s : VolumeSegment) → noVolume s ≡ true → s ≡ zeroVolume
+unfolding noVolume
+no-volume-zero s h =
+    let k = both-snd _ _ h in
+    zero-segment (s .start .0) (s .end .0) (s .volume .0) (eqb-true _ _ (both-fst _ _ h)) (eqb-true _ _ (both-fst _ _ k)) (eqb-true _ _ (both-snd _ _ k))
+
+-- the segments of a record with nothing in its unused places
+pub segments-are : (r : FreeList) → r .count ≤ 64 → length (r .segments) ≡ 64 → allOf noVolume (drop (r .count) (r .segments)) ≡ true
+    → r .segments ≡ padded 64 zeroVolume (listed r)
+segments-are r few size unused = padded-is noVolume zeroVolume no-volume-zero 64 (r .count) (r .segments) size few unused
+
+-- a store at a place of the list, and one more element after it
+padded-two : {A : Type 0} (m : ℕ) (z : A) (l : List A) (i : ℕ) (x y : A) → i < length l → length l < m
+    → set (insertOf (padded m z l) (length l) (i + 1) y) i x ≡ padded m z (take i l ++ (x ∷ (y ∷ drop (suc i) l)))
+unfolding padded
+padded-two {A} m z l i x y lt room =
+    let n : ℕ = length l in
+    let d : List A = drop (suc i) l in
+    let zs : List A = replicate (m - suc (length l)) z in
+    let more : m - length l ≡ suc (m - suc (length l)) = omega arith in
+    let front : take (suc i) (l ++ replicate (m - length l) z) ≡ take (suc i) l = take-append-le (suc i) l _ (omega arith) in
+    let list : take (length l) (l ++ replicate (m - length l) z) ≡ l = unfold padded in take-padded m z l (length l) refl in
+    let past : drop (length l + 1) (l ++ replicate (m - length l) z) ≡ zs = drop-append-add l (replicate (m - length l) z) 1 ∙ ap (λ (k : ℕ). drop 1 (replicate k z)) more in
+    let len : i < length (take (suc i) l) = simp length-take (omega arith) in
+    let head : set (take (suc i) l) i x ≡ take i l ++ (x ∷ []) = sym (take-set-lt (suc i) l i x (omega arith)) ∙ take-suc-set l i x lt in
+    let size : m - length (take i l ++ (x ∷ (y ∷ d))) ≡ m - suc (length l) = simp (length-append, length-take, length-drop) (omega arith) in
+    rw (add-one i, front, list, past, size)
+    (set-append-left (take (suc i) l) (y ∷ (d ++ zs)) i x len ∙ rw head (simp append-assoc))
+
+-- the cut list, around the place that is cut
+cut-at : (l f : List VolumeSegment) (i s e v : ℕ) → i < length f
+    → cutOf l f i s e v ≡ take i f ++ leftOf l (getD f i zeroVolume) s e v (drop (suc i) f)
+unfolding cutOf
+cut-at l [] i s e v h = absurd (omega arith)
+cut-at l (g ∷ f) zero s e v h = refl
+cut-at l (g ∷ f) (suc i) s e v h = ap (λ (x : List VolumeSegment). g ∷ x) (cut-at l f i s e v (omega arith))
+
+-- The cut list in each of its three ways, and how long it is.
+module _ (l f : List VolumeSegment) (i s e v : ℕ) (lt : i < length f) where
+  abbrev g : VolumeSegment
+  g = getD f i zeroVolume
+
+  one-length : (x : VolumeSegment) → length (take i f ++ (x ∷ drop (suc i) f)) ≡ length f
+  one-length x = simp (length-append, length-take, length-drop) (omega arith)
+
+  pub cut-start : g .start .0 ≡ s → cutOf l f i s e v ≡ take i f ++ (restOf g e v ∷ drop (suc i) f)
+  cut-start h = cut-at l f i s e v lt ∙ ap (λ (k : List VolumeSegment). take i f ++ k) (left-start l g s e v (drop (suc i) f) h)
+
+  pub cut-start-length : g .start .0 ≡ s → length (cutOf l f i s e v) ≡ length f
+  cut-start-length h = ap length (cut-start h) ∙ one-length (restOf g e v)
+
+  module _ (h : g .start .0 ≡ s → ⊥) where
+    pub cut-flat : s ≡ e → cutOf l f i s e v ≡ take i f ++ (stretchOf l (g .start .0) s ∷ drop (suc i) f)
+    cut-flat k = cut-at l f i s e v lt ∙ ap (λ (k : List VolumeSegment). take i f ++ k) (left-flat l g s e v (drop (suc i) f) h k)
+
+    pub cut-flat-length : s ≡ e → length (cutOf l f i s e v) ≡ length f
+    cut-flat-length k = ap length (cut-flat k) ∙ one-length (stretchOf l (g .start .0) s)
+
+    pub cut-two : (s ≡ e → ⊥)
+        → cutOf l f i s e v ≡ take i f ++ (stretchOf l (g .start .0) s ∷ (stretchOf l e (g .end .0) ∷ drop (suc i) f))
+    cut-two k = cut-at l f i s e v lt ∙ ap (λ (k : List VolumeSegment). take i f ++ k) (left-two l g s e v (drop (suc i) f) h k)
+
+    pub cut-two-length : (s ≡ e → ⊥) → length (cutOf l f i s e v) ≡ suc (length f)
+    cut-two-length k = ap length (cut-two k) ∙ simp (length-append, length-take, length-drop) (omega arith)
+
+-- The two answers of a cut.
+module _ (l : List VolumeSegment) (r : FreeList) (i s e v : ℕ) where
+  pub cut-done : length (cutOf l (listed r) i s e v) ≤ 64 → cutList l r i s e v ≡ record { number = 0; list = listIn (cutOf l (listed r) i s e v) }
+  unfolding cutList
+  cut-done h = unless-go _ _ _ (le-leb _ _ h)
+
+  pub cut-full : 64 < length (cutOf l (listed r) i s e v) → cutList l r i s e v ≡ record { number = 10; list = r }
+  unfolding cutList
+  cut-full h = unless-stop _ _ _ (lt-leb _ _ h)
+
+module _ (r : FreeList) (i : ℕ) (a b : VolumeSegment) where
+  pub two-full : 64 ≤ r .count → cutInTwo r i a b ≡ record { number = 10; list = r }
+  unfolding cutInTwo
+  two-full h = unless-stop _ _ _ (le-ltb _ _ h)
+
+  pub two-done : r .count < 64
+      → cutInTwo r i a b ≡ record { number = 0; list = record { segments = set (insertOf (r .segments) (r .count) (i + 1) b) i a; count = r .count + 1 } }
+  unfolding cutInTwo
+  two-done h = unless-go _ _ _ (lt-ltb _ _ h)
+
+made : (a b : List VolumeSegment) (n m : ℕ) → a ≡ b → n ≡ m
+    → _≡_ {A = Cut} (record { number = 0; list = record { segments = a; count = n } }) (record { number = 0; list = record { segments = b; count = m } })
+made a b n m h k = rw (h, k)
+
+-- The stores of a cut in a record are the cut of its list.
+module _ (l : List VolumeSegment) (r : FreeList) (i s e v : ℕ) (size : length (r .segments) ≡ 64) (q : Inside r i v) where
+  few : r .count ≤ 64
+  few = q .few
+
+  at : i < r .count
+  at = q .at
+
+  pub listed-length : length (listed r) ≡ r .count
+  listed-length = length-take-le (r .count) (r .segments) (omega (arith, few))
+
+  in-list : i < length (listed r)
+  in-list = omega (arith, listed-length, at)
+
+  whole : r .segments ≡ padded 64 zeroVolume (listed r)
+  whole = segments-are r few size (q .unused)
+
+  here : getD (listed r) i zeroVolume ≡ getD (r .segments) i zeroVolume
+  here = getD-take (r .count) (r .segments) i zeroVolume at
+
+  stored-is : (x : VolumeSegment) → cutOf l (listed r) i s e v ≡ take i (listed r) ++ (x ∷ drop (suc i) (listed r))
+      → storedOf r i x ≡ cutList l r i s e v
+  stored-is x h =
+      let len : length (cutOf l (listed r) i s e v) ≡ length (listed r) = ap length h ∙ one-length l (listed r) i s e v in-list x in
+      made _ _ _ _ (ap (λ (a : List VolumeSegment). set a i x) whole ∙ padded-set 64 zeroVolume (listed r) i x in-list ∙ ap (padded 64 zeroVolume) (sym h))
+      (omega (arith, len, listed-length))
+      ∙ sym (cut-done l r i s e v (omega (arith, len, listed-length, few)))
+
+  two-is : (x y : VolumeSegment) → cutOf l (listed r) i s e v ≡ take i (listed r) ++ (x ∷ (y ∷ drop (suc i) (listed r)))
+      → length (cutOf l (listed r) i s e v) ≡ suc (length (listed r)) → cutInTwo r i x y ≡ cutList l r i s e v
+  two-is x y h len =
+      ⊎-elim
+      (λ (full : 64 ≤ r .count). two-full r i x y full ∙ sym (cut-full l r i s e v (omega (arith, len, listed-length))))
+      (λ (room : r .count < 64).
+      let two : set (insertOf (r .segments) (r .count) (i + 1) y) i x ≡ padded 64 zeroVolume (cutOf l (listed r) i s e v)
+      = ap (λ (a : List VolumeSegment). set (insertOf a (r .count) (i + 1) y) i x) whole
+      ∙ ap (λ (n : ℕ). set (insertOf (padded 64 zeroVolume (listed r)) n (i + 1) y) i x) (sym listed-length)
+      ∙ padded-two 64 zeroVolume (listed r) i x y in-list (omega (arith, listed-length))
+      ∙ ap (padded 64 zeroVolume) (sym h) in
+      two-done r i x y room
+      ∙ made _ _ _ _ two (omega (arith, len, listed-length))
+      ∙ sym (cut-done l r i s e v (omega (arith, len, listed-length))))
+      (le-or-lt 64 (r .count))
+
+  abbrev seg : VolumeSegment
+  seg = getD (r .segments) i zeroVolume
+
+  pub book-start : seg .start .0 ≡ s → storedOf r i (restOf seg e v) ≡ cutList l r i s e v
+  book-start h = rw (← here) (stored-is _ (cut-start l (listed r) i s e v in-list (rw here h)))
+
+  module _ (h : seg .start .0 ≡ s → ⊥) where
+    pub book-flat : s ≡ e → storedOf r i (stretchOf l (seg .start .0) s) ≡ cutList l r i s e v
+    book-flat k = rw (← here) (stored-is _ (cut-flat l (listed r) i s e v in-list (rw here h) k))
+
+    pub book-two : (s ≡ e → ⊥) → cutInTwo r i (stretchOf l (seg .start .0) s) (stretchOf l e (seg .end .0)) ≡ cutList l r i s e v
+    book-two k =
+        rw (← here)
+        (two-is _ _ (cut-two l (listed r) i s e v in-list (rw here h) k) (cut-two-length l (listed r) i s e v in-list (rw here h) k))

@@ -1,0 +1,72 @@
+-- Each call's promise determines its answer. `Post` is the reading of the contract in src/.
+use Prim.Native.Nat.{ℕ}
+use mathlib.Core.Path.{sym, ap, _∙_}
+use mathlib.Core.List.{List}
+use Rattle.units.specs.declared.Date.{Date}
+use Rattle.units.specs.declared.Interval.{Interval}
+use Rattle.units.specs.declared.Volume.{Volume}
+use Rattle.units.proofs.Determined.{Determined}
+use Rattle.segmentation.specs.declared.VolumeSegment.{VolumeSegment}
+use Rattle.free_list.specs.declared.FreeList.{FreeList}
+use Rattle.free_list.specs.declared.walk.Walk.{Walk}
+use Rattle.free_list.proofs.unused.Reads as unused-reads
+use Rattle.free_list.proofs.end_in.Reads as end-in-reads
+use Rattle.free_list.proofs.find_offer.Reads as find-offer-reads
+use Rattle.free_list.proofs.insert.Reads as insert-reads
+use Rattle.free_list.proofs.rest.Reads as rest-reads
+use Rattle.free_list.proofs.stretch.Reads as stretch-reads
+use Rattle.free_list.proofs.FreeList.stored.Reads as stored-reads
+use Rattle.free_list.proofs.FreeList.cut_in_two.Reads as cut-in-two-reads
+use Rattle.free_list.proofs.FreeList.cut.Reads as cut-reads
+use Rattle.free_list.proofs.walk.begin.Reads as begin-reads
+use Rattle.free_list.proofs.walk.piece.Reads as piece-reads
+use Rattle.free_list.proofs.walk.turn.Reads as turn-reads
+use Rattle.free_list.proofs.walk.next.Reads as next-reads
+use Rattle.free_list.proofs.walk.listed_ok.Reads as listed-ok-reads
+
+pub unused-unique : (segments : List VolumeSegment) (count : ℕ) → Determined (unused-reads.Post tt (segments, (count, tt)))
+unused-unique segments count r q x y f g = f ∙ sym g
+
+pub end-in-unique : (rates : List VolumeSegment) (m : ℕ) (s : VolumeSegment) (asked : Date) (size : Volume)
+    → Determined (end-in-reads.Post tt (rates, (m, (s, (asked, (size, tt))))))
+end-in-unique rates m s asked size r q x y f g = f ∙ sym g
+
+pub find-offer-unique : (rates : List VolumeSegment) (m : ℕ) (segments : List VolumeSegment) (n : ℕ) (window : Interval) (asked : Date) (size : Volume)
+    → Determined (find-offer-reads.Post tt (rates, (m, (segments, (n, (window, (asked, (size, tt))))))))
+find-offer-unique rates m segments n window asked size r q x y f g = f ∙ sym g
+
+pub insert-unique : (segments : List VolumeSegment) (n i : ℕ) (s : VolumeSegment) → Determined (insert-reads.Post tt (segments, (n, (i, (s, tt)))))
+insert-unique segments n i s r q x y f g = f ∙ sym g
+
+pub rest-unique : (s : VolumeSegment) (end : Date) (size : Volume) → Determined (rest-reads.Post tt (s, (end, (size, tt))))
+rest-unique s end size r q x y f g = f ∙ sym g
+
+pub stretch-unique : (rates : List VolumeSegment) (m : ℕ) (start end : Date) → Determined (stretch-reads.Post tt (rates, (m, (start, (end, tt)))))
+stretch-unique rates m start end r q x y f g = f ∙ sym g
+
+module _ (self : FreeList) where
+  pub stored-unique : (place : ℕ) (s : VolumeSegment) → Determined (stored-reads.Post tt (self, (place, (s, tt))))
+  stored-unique place s r q x y f g = f ∙ sym g
+
+  pub cut-in-two-unique : (place : ℕ) (left right : VolumeSegment) → Determined (cut-in-two-reads.Post tt (self, (place, (left, (right, tt)))))
+  cut-in-two-unique place left right r q x y f g = f ∙ sym g
+
+  pub cut-unique : (rates : List VolumeSegment) (m place : ℕ) (send : Interval) (size : Volume)
+      → Determined (cut-reads.Post tt (self, (rates, (m, (place, (send, (size, tt)))))))
+  cut-unique rates m place send size r q x y f g = f ∙ sym g
+
+pub begin-unique : (s : VolumeSegment) (low : Date) → Determined (begin-reads.Post tt (s, (low, tt)))
+begin-unique s low r q x y f g = f ∙ sym g
+
+pub piece-unique : (w : Walk) (a b : Date) → Determined (piece-reads.Post tt (w, (a, (b, tt))))
+piece-unique w a b r q x y f g = ap (λ (n : ℕ). record { 0 = n }) (f ∙ sym g)
+
+pub turn-unique : (w : Walk) (s t : VolumeSegment) (to : Date) → Determined (turn-reads.Post tt (w, (s, (t, (to, tt)))))
+turn-unique w s t to r q x y f g = f ∙ sym g
+
+pub next-unique : (place m : ℕ) → Determined (next-reads.Post tt (place, (m, tt)))
+next-unique place m r q x y f g = f ∙ sym g
+
+pub listed-ok-unique : (rates : List VolumeSegment) (m : ℕ) (free : List VolumeSegment) (n : ℕ) (window : Interval)
+    → Determined (listed-ok-reads.Post tt (rates, (m, (free, (n, (window, tt))))))
+listed-ok-unique rates m free n window r q x y f g = f ∙ sym g

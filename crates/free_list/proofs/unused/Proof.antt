@@ -1,0 +1,69 @@
+-- `free_list::unused` meets its contract. The invariant: the places left have the answer of all.
+use borrow.Author.Needs.{needs}
+use borrow.Author.Tests.{not-true, not-false}
+use Prim.Native.Nat.{_-_}
+use mathlib.Core.Path.{_≡_, sym, _∙_}
+use native.Mathlib.Omega.{arith}
+use lib.ListN.{length}
+use Rattle.units.proofs.Unused.{Rest, rest-first, rest-end, rest-stop, rest-step}
+use Rattle.contact.specs.Segments.{noVolume}
+use Rattle.free_list.proofs.unused.Statement.{statement}
+use Rattle.free_list.proofs.unused.Tie as tie
+
+abbrev Inv-loop : tie.InvT-loop
+Inv-loop count segments i₀ i = Rest noVolume segments 64 count i
+
+abbrev μ-loop : tie.MeasureT-loop
+μ-loop count segments i₀ i = 64 - i
+
+size : (c : tie.Start Inv-loop μ-loop) → length (c .args .t1) ≡ 64
+size c = search needs
+
+loop-holds : tie.Need-loop-holds Inv-loop μ-loop
+loop-holds c = rest-first _ _ _ _ (c .pre)
+
+mul-s : tie.Need-mul-s Inv-loop μ-loop
+mul-s c = search needs
+
+array-copy-out-s : tie.Need-array-copy-out-s Inv-loop μ-loop
+array-copy-out-s c = search needs
+
+no-volume-requires : tie.Need-no-volume-requires Inv-loop μ-loop
+no-volume-requires c κs = search needs
+
+add-i : tie.Need-add-i Inv-loop μ-loop
+add-i c = search needs
+
+loop-less : tie.Need-loop-less Inv-loop μ-loop
+loop-less c = search needs
+
+loop-again : tie.Need-loop-again Inv-loop μ-loop
+loop-again c =
+    let t = c .before in
+    let e = t .before .before in
+    rest-step _ _ _ _ _ (e .before .loop .inv) (size (e .before .before)) _ (omega (arith, e .if1 .left)) (sym (t .no-volume .ensures) ∙ not-false _ (c .if2 .left))
+
+returns : tie.Need-returns Inv-loop μ-loop
+returns c = sym (rest-end _ _ _ _ _ (c .before .loop .inv) (size (c .before .before)) (omega (arith, c .if1 .taken)))
+
+returns-2 : tie.Need-returns-2 Inv-loop μ-loop
+returns-2 c =
+    let t = c .before in
+    let e = t .before .before in
+    sym (rest-stop _ _ _ _ _ (e .before .loop .inv) (size (e .before .before)) _ (omega (arith, e .if1 .left)) (sym (t .no-volume .ensures) ∙ not-true _ (c .if2 .taken)))
+
+pub unused-spec : {M : Type 1} → statement M
+unused-spec =
+    tie.close
+    (tie.spec
+    Inv-loop
+    μ-loop
+    loop-holds
+    mul-s
+    array-copy-out-s
+    no-volume-requires
+    add-i
+    loop-less
+    loop-again
+    returns
+    returns-2)

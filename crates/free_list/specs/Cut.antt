@@ -1,0 +1,52 @@
+-- 01, "Managers", Free volume, the booking's cut.
+use Prim.Native.Nat.{ℕ, zero, suc, _-_}
+use mathlib.Core.List.{List, [], _∷_}
+use lib.Dec.{leb, eqb}
+use lib.ListN.{length, take}
+use Rattle.units.specs.declared.Interval.{Interval}
+use Rattle.units.specs.Logic.{pick, unless}
+use Rattle.units.specs.Arrays.{padded}
+use Rattle.segmentation.specs.declared.VolumeSegment.{VolumeSegment}
+use Rattle.segmentation.specs.Capacity.{capacity}
+use Rattle.contact.specs.Segments.{zeroVolume}
+use Rattle.free_list.specs.declared.FreeList.{FreeList}
+use Rattle.free_list.specs.declared.Cut.{Cut}
+
+-- booking at the segment's start: start becomes the end sent, volume falls by the size
+abbrev pub restOf : VolumeSegment → ℕ → ℕ → VolumeSegment
+restOf g e v = record { start = record { 0 = e }; end = g .end; volume = record { 0 = g .volume .0 - v } }
+
+-- a stretch with its volume worked out anew
+abbrev pub stretchOf : List VolumeSegment → ℕ → ℕ → VolumeSegment
+stretchOf l a b = record { start = record { 0 = a }; end = record { 0 = b }; volume = record { 0 = capacity l a b } }
+
+-- what a booking of [s, e) leaves of a segment, before the others; a right part only if s and e differ, and it may be empty
+unfoldable pub leftOf : List VolumeSegment → VolumeSegment → ℕ → ℕ → ℕ → List VolumeSegment → List VolumeSegment
+leftOf l g s e v f =
+    pick (eqb (g .start .0) s)
+    (restOf g e v ∷ f)
+    (stretchOf l (g .start .0) s ∷ pick (eqb s e) f (stretchOf l e (g .end .0) ∷ f))
+
+-- the list with the segment at the offer's place cut
+unfoldable pub cutOf : List VolumeSegment → List VolumeSegment → ℕ → ℕ → ℕ → ℕ → List VolumeSegment
+cutOf l [] i s e v = []
+cutOf l (g ∷ f) zero s e v = leftOf l g s e v f
+cutOf l (g ∷ f) (suc i) s e v = g ∷ cutOf l f i s e v
+
+-- the listed segments of a record
+abbrev pub listed : FreeList → List VolumeSegment
+listed r = take (r .count) (r .segments)
+
+-- the record's list of these segments
+abbrev pub listIn : List VolumeSegment → FreeList
+listIn f = record { segments = padded 64 zeroVolume f; count = length f }
+
+-- what an opening lists: the whole window, with a volume
+abbrev pub wholeWindow : Interval → ℕ → VolumeSegment
+wholeWindow w total = record { start = w .start; end = w .end; volume = record { 0 = total } }
+
+-- refusal 10: the booking would leave more than 64 listed segments
+unfoldable pub cutList : List VolumeSegment → FreeList → ℕ → ℕ → ℕ → ℕ → Cut
+cutList l r i s e v =
+    unless (leb (length (cutOf l (listed r) i s e v)) 64) (record { number = 10; list = r })
+    (record { number = 0; list = listIn (cutOf l (listed r) i s e v) })

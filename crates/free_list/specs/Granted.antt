@@ -1,0 +1,96 @@
+-- What inner functions take for granted or compute on the way. No promise of a public call rests on it.
+use Prim.Native.Nat.{ℕ, _+_, _-_, _*_, _<_, _≤_, _^_, min, max}
+use mathlib.Core.Bool.{true}
+use mathlib.Core.Path.{_≡_}
+use mathlib.Core.List.{List, _∷_, _++_}
+use lib.Dec.{ltb}
+use lib.ListN.{take, drop, getD, set}
+use Rattle.units.specs.declared.Date.{Date}
+use Rattle.units.specs.Logic.{pick, unless, allOf}
+use Rattle.segmentation.specs.declared.VolumeSegment.{VolumeSegment}
+use Rattle.segmentation.specs.Capacity.{rateOf}
+use Rattle.segmentation.specs.End.{closeOf}
+use Rattle.segmentation.specs.Granted.{Run}
+use Rattle.contact.specs.Segments.{zeroVolume, noVolume}
+use Rattle.free_list.specs.declared.FreeList.{FreeList}
+use Rattle.free_list.specs.declared.Cut.{Cut}
+use Rattle.free_list.specs.declared.walk.Walk.{Walk}
+use Rattle.free_list.specs.declared.walk.Taken.{Taken}
+use Rattle.free_list.specs.declared.walk.Taken.the-variants.{Go, No}
+
+-- the rate segments are the window, without a gap
+pub record Window (l : List VolumeSegment) (lo hi : ℕ) : Type 0 where
+  pub run : Run lo l
+  pub last : closeOf lo l ≡ hi
+
+-- the place is listed and holds the size, and nothing is in an unused place
+pub record Inside (r : FreeList) (place v : ℕ) : Type 0 where
+  pub few : r .count ≤ 64
+  pub at : place < r .count
+  pub room : v ≤ getD (r .segments) place zeroVolume .volume .0
+  pub unused : allOf noVolume (drop (r .count) (r .segments)) ≡ true
+
+-- the list with a at place i and the elements of i to n moved up by one; what stands past n stays
+abbrev pub insertOf : {A : Type 0} → List A → ℕ → ℕ → A → List A
+insertOf l n i a = take i l ++ (a ∷ (drop i (take n l) ++ drop (n + 1) l))
+
+abbrev pub storedOf : FreeList → ℕ → VolumeSegment → Cut
+storedOf r i s = record { number = 0; list = record { segments = set (r .segments) i s; count = r .count } }
+
+unfoldable pub cutInTwo : FreeList → ℕ → VolumeSegment → VolumeSegment → Cut
+cutInTwo r i a b =
+    unless (ltb (r .count) 64) (record { number = 10; list = r })
+    (record { number = 0; list = record { segments = set (insertOf (r .segments) (r .count) (i + 1) b) i a; count = r .count + 1 } })
+
+-- the walk's numbers fit
+pub record WalkOk (w : Walk) : Type 0 where
+  pub forth : w .start .0 ≤ w .end .0
+  pub small : w .sum .0 ≤ w .place * 2 ^ 38
+  pub few : w .place < 16
+  pub listed : w .i < 64
+  pub carries : w .rate .0 * (w .end .0 - w .start .0) ≤ 2 ^ 38
+
+abbrev pub startOf : VolumeSegment → Date → Walk
+startOf s low =
+    record { i = 0; low = low; sum = record { 0 = 0 }; place = 0; start = s .start; end = s .end; rate = record { 0 = rateOf s } }
+
+-- the capacity found with the rate segment in hand
+abbrev pub foundOf : Walk → VolumeSegment → ℕ
+foundOf w g = w .sum .0 + w .rate .0 * (min (g .end .0) (w .end .0) - max (g .start .0) (w .start .0))
+
+-- on to the next rate segment
+abbrev pub onOf : Walk → VolumeSegment → VolumeSegment → Walk
+onOf w g s =
+    record {
+      i = w .i;
+      low = w .low;
+      sum = record { 0 = foundOf w g };
+      place = w .place + 1;
+      start = s .start;
+      end = s .end;
+      rate = record { 0 = rateOf s };
+    }
+
+-- on to the next listed segment
+abbrev pub doneOf : Walk → VolumeSegment → Walk
+doneOf w g =
+    record {
+      i = w .i + 1;
+      low = record { 0 = g .end .0 + 1 };
+      sum = record { 0 = 0 };
+      place = w .place;
+      start = w .start;
+      end = w .end;
+      rate = w .rate;
+    }
+
+unfoldable pub turnOf : Walk → VolumeSegment → VolumeSegment → ℕ → Taken
+turnOf w g s hi =
+    pick (ltb (g .start .0) (w .low .0)) No
+    (pick (ltb (g .end .0) (g .start .0)) No
+    (pick (ltb hi (g .end .0)) No
+    (pick (ltb (w .end .0) (g .end .0)) (Go (onOf w g s))
+    (pick (ltb (foundOf w g) (g .volume .0)) No (Go (doneOf w g))))))
+
+unfoldable pub nextOf : ℕ → ℕ → ℕ
+nextOf place m = pick (ltb (place + 1) m) (place + 1) place

@@ -1,0 +1,5 @@
+pub mod Listed
+pub mod Offer
+pub mod Cut
+pub mod Instants
+pub mod Granted

@@ -1,0 +1,277 @@
+// Lists of free time: their test in one pass, the search for an offer, the cut of a booking.
+use segmentation::End;
+use segmentation::RateSegment;
+use segmentation::VolumeSegment;
+use units::Date;
+use units::Interval;
+use units::Volume;
+ghost use mathlib.Core.Path.{_≡_};
+ghost use mathlib.Core.Bool.{true};
+ghost use mathlib.Core.List.{List, [], _∷_};
+ghost use Prim.Native.Nat.{_<_, _≤_};
+ghost use lib.ListN.{take, drop};
+ghost use Rattle.units.specs.Logic.{allOf};
+ghost use Rattle.segmentation.specs.Granted.{Run, Runs, Covers};
+ghost use Rattle.segmentation.specs.End.{endOf};
+ghost use Rattle.contact.specs.Segments.{noVolume};
+ghost use Rattle.free_list.specs.Listed.{listOk};
+ghost use Rattle.free_list.specs.Offer.{offerOf, endIn};
+ghost use Rattle.free_list.specs.Cut.{restOf, stretchOf, cutList, listIn, wholeWindow};
+ghost use Rattle.free_list.specs.Granted.{Inside, insertOf, storedOf, cutInTwo};
+
+pub mod walk;
+
+pub struct FreeList {
+    pub segments: [VolumeSegment; FreeList::COUNT_MAX],
+    pub count: usize,
+}
+
+impl FreeList {
+    pub const COUNT_MAX: usize = 64;
+}
+
+// The listed segment that makes the offer, and the send interval.
+pub enum Found {
+    At { place: usize, send: Interval },
+    None,
+}
+
+// A cut's answer: 0 and the list that is left, or 10 and the list as it came.
+pub struct Cut {
+    pub number: u8,
+    pub list: FreeList,
+}
+
+// Is nothing in the places from the count on?
+pub fn unused(segments: [VolumeSegment; FreeList::COUNT_MAX], count: usize) -> bool
+    requires { ⌜ count ≤ 64 ⌝ }
+    ensures { λ r. ⌜ r ≡ allOf noVolume (drop count segments) ⌝ }
+{
+    let mut i = count;
+    loop {
+        if FreeList::COUNT_MAX <= i {
+            break true;
+        }
+        let s = segments[i];
+        if !contact::test::no_volume(s) {
+            break false;
+        }
+        i += 1;
+    }
+}
+
+// The end that a listed segment has for the bundle: none if it ends before the asked time or lists less than the size.
+pub fn end_in(
+    rates: [VolumeSegment; RateSegment::COUNT_MAX],
+    m: usize,
+    g: VolumeSegment,
+    asked: Date,
+    size: Volume,
+) -> End
+    requires { ⌜ m ≤ 16 ⌝ ∗ ⌜ 0 < size .0 ⌝ ∗ ⌜ Covers (g .start .0) (take m rates) ⌝ }
+    ensures { λ r. ⌜ r ≡ endIn (endOf (take m rates)) g (asked .0) (size .0) ⌝ }
+{
+    let end = g.end;
+    if end.0 < asked.0 {
+        return End::None;
+    }
+    if g.volume.0 < size.0 {
+        return End::None;
+    }
+    let from = units::later(g.start, asked);
+    segmentation::find_end(rates, m, from, size, end)
+}
+
+// dry_run_tx: the first listed segment that has an end for the bundle.
+pub fn find_offer(
+    rates: [VolumeSegment; RateSegment::COUNT_MAX],
+    m: usize,
+    segments: [VolumeSegment; FreeList::COUNT_MAX],
+    n: usize,
+    window: Interval,
+    asked: Date,
+    size: Volume,
+) -> Found
+    requires { ⌜ m ≤ 16 ⌝ ∗ ⌜ n ≤ 64 ⌝ ∗ ⌜ 0 < size .0 ⌝ ∗ ⌜ Run (window .start .0) (take m rates) ⌝ ∗ ⌜ listOk (take m rates) (window .start .0) (window .end .0) (take n segments) ≡ true ⌝ }
+    ensures { λ r. ⌜ r ≡ offerOf (endOf (take m rates)) (take n segments) (asked .0) (size .0) ⌝ }
+{
+    let mut i: usize = 0;
+    loop {
+        if n <= i {
+            break Found::None;
+        }
+        let g = segments[i];
+        let End::At(e) = end_in(rates, m, g, asked, size) else {
+            i += 1;
+            continue;
+        };
+        let from = units::later(g.start, asked);
+        break Found::At {
+            place: i,
+            send: Interval {
+                start: from,
+                end: e,
+            },
+        };
+    }
+}
+
+// The segments with one more at a place, those from it on moved up.
+pub fn insert(
+    segments: [VolumeSegment; FreeList::COUNT_MAX],
+    n: usize,
+    i: usize,
+    s: VolumeSegment,
+) -> [VolumeSegment; FreeList::COUNT_MAX]
+    requires { ⌜ i ≤ n ⌝ ∗ ⌜ n < 64 ⌝ }
+    ensures { λ r. ⌜ r ≡ insertOf segments n i s ⌝ }
+{
+    let mut a = segments;
+    let mut j = n;
+    while i < j {
+        let k = j - 1;
+        let x = a[k];
+        a[j] = x;
+        j = k;
+    }
+    a[i] = s;
+    a
+}
+
+// A booking at the segment's start: it begins at the send end, with the size less.
+pub fn rest(g: VolumeSegment, end: Date, size: Volume) -> VolumeSegment
+    requires { ⌜ size .0 ≤ g .volume .0 ⌝ }
+    ensures { λ r. ⌜ r ≡ restOf g (end .0) (size .0) ⌝ }
+{
+    let to = g.end;
+    VolumeSegment {
+        start: end,
+        end: to,
+        volume: Volume(g.volume.0 - size.0),
+    }
+}
+
+// A stretch of free time with its volume worked out anew.
+pub fn stretch(
+    rates: [VolumeSegment; RateSegment::COUNT_MAX],
+    m: usize,
+    start: Date,
+    end: Date,
+) -> VolumeSegment
+    requires { ⌜ m ≤ 16 ⌝ ∗ ⌜ Runs (take m rates) ⌝ }
+    ensures { λ r. ⌜ r ≡ stretchOf (take m rates) (start .0) (end .0) ⌝ }
+{
+    let volume = segmentation::volume_between(rates, m, start, end);
+    VolumeSegment {
+        start: start,
+        end: end,
+        volume: volume,
+    }
+}
+
+impl FreeList {
+    // A list with nothing in it.
+    pub fn nothing() -> FreeList
+        ensures { λ r. ⌜ r ≡ listIn [] ⌝ }
+    {
+        let zero = VolumeSegment {
+            start: Date(0),
+            end: Date(0),
+            volume: Volume(0),
+        };
+        let segments = [zero; FreeList::COUNT_MAX];
+        FreeList {
+            segments: segments,
+            count: 0,
+        }
+    }
+
+    // A list of the whole window, with a volume.
+    pub fn whole(window: Interval, total: Volume) -> FreeList
+        ensures { λ r. ⌜ r ≡ listIn (wholeWindow window (total .0) ∷ []) ⌝ }
+    {
+        let none = FreeList::nothing();
+        let start = window.start;
+        let end = window.end;
+        let mut segments = none.segments;
+        segments[0] = VolumeSegment {
+            start: start,
+            end: end,
+            volume: total,
+        };
+        FreeList {
+            segments: segments,
+            count: 1,
+        }
+    }
+
+    // The list with another segment at a place.
+    pub fn stored(self, place: usize, s: VolumeSegment) -> Cut
+        requires { ⌜ place < 64 ⌝ }
+        ensures { λ r. ⌜ r ≡ storedOf self place s ⌝ }
+    {
+        let n = self.count;
+        let mut a = self.segments;
+        a[place] = s;
+        Cut {
+            number: 0,
+            list: FreeList {
+                segments: a,
+                count: n,
+            },
+        }
+    }
+
+    // The list with a segment at a place cut in two; 10 where there is no room for one more.
+    pub fn cut_in_two(self, place: usize, left: VolumeSegment, right: VolumeSegment) -> Cut
+        requires { ⌜ (place < self .count) × (self .count ≤ 64) ⌝ }
+        ensures { λ r. ⌜ r ≡ cutInTwo self place left right ⌝ }
+    {
+        let n = self.count;
+        if FreeList::COUNT_MAX <= n {
+            return Cut {
+                number: units::refusal::FULL,
+                list: self,
+            };
+        }
+        let old = self.segments;
+        let mut a = insert(old, n, place + 1, right);
+        a[place] = left;
+        Cut {
+            number: 0,
+            list: FreeList {
+                segments: a,
+                count: n + 1,
+            },
+        }
+    }
+
+    // schedule_tx: what a booking leaves of the list.
+    pub fn cut(
+        self,
+        rates: [VolumeSegment; RateSegment::COUNT_MAX],
+        m: usize,
+        place: usize,
+        send: Interval,
+        size: Volume,
+    ) -> Cut
+        requires { ⌜ m ≤ 16 ⌝ ∗ ⌜ Runs (take m rates) ⌝ ∗ ⌜ Inside self place (size .0) ⌝ }
+        ensures { λ r. ⌜ r ≡ cutList (take m rates) self place (send .start .0) (send .end .0) (size .0) ⌝ }
+    {
+        let from = send.start;
+        let to = send.end;
+        let segments = self.segments;
+        let g = segments[place];
+        let start = g.start;
+        let end = g.end;
+        if start.0 == from.0 {
+            return self.stored(place, rest(g, to, size));
+        }
+        let left = stretch(rates, m, start, from);
+        if from.0 == to.0 {
+            return self.stored(place, left);
+        }
+        let right = stretch(rates, m, to, end);
+        self.cut_in_two(place, left, right)
+    }
+}

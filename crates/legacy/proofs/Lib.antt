@@ -1,0 +1,11 @@
+pub mod First
+pub mod Rules
+pub mod Facts
+pub mod Offers
+pub mod Moves
+pub mod Answers
+pub mod Kept
+pub mod Inverse
+pub mod Unique
+pub mod Cases
+pub mod Reach

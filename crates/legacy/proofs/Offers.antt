@@ -1,0 +1,88 @@
+-- The offer, test by test, from what the code has worked out: the queue, the budget, the start and the two arrivals.
+use Prim.Native.Nat.{ℕ, _+_, _/_, _<_, _≤_, _^_}
+use mathlib.Core.Path.{_≡_, sym, ap, _∙_}
+use native.Mathlib.Nat.{div-le-self}
+use native.Mathlib.Omega.{arith}
+use mathlib.Core.Bool.{true}
+use lib.Dec.{leb}
+use borrow.Author.Tests.{le-leb, lt-leb, leb-true}
+use Rattle.units.specs.declared.Date.{Date}
+use Rattle.units.specs.declared.Volume.{Volume}
+use Rattle.units.specs.declared.Bundle.{Bundle}
+use Rattle.units.specs.declared.Offer.{Offer}
+use Rattle.units.specs.Answer.{refused, offered}
+use Rattle.units.proofs.Logic.{pick-keeps, unless-keeps, unless-go, unless-stop}
+use Rattle.legacy.specs.declared.Queue.{Queue}
+use Rattle.units.specs.Limits.{bundleOk}
+use Rattle.legacy.specs.Record.{recordOk}
+use Rattle.legacy.specs.DryRun.{classOf, queueAt, budgetAt, startAt, answerAt, dryRunOf}
+use Rattle.legacy.proofs.Facts.{sound}
+
+-- the start is not far past the limit of dates
+start-low : (r : Queue) (t q : ℕ) → r .window .start .0 ≤ 2 ^ 40 → t ≤ 2 ^ 40 → q ≤ 2 ^ 41 → startAt r t q ≤ 2 ^ 42
+start-low r t q h k m =
+    let w : q / r .rate .0 ≤ q = div-le-self q (r .rate .0) in
+    let P : ℕ → Type 0 = λ (n : ℕ). n ≤ 2 ^ 42 in
+    pick-keeps P (r .flags .«add_delay») _ _ (λ _. pick-keeps P (r .flags .«self_update») _ _ (λ _. omega arith) (λ _. omega arith)) (λ _. omega arith)
+
+pub begun : (r : Queue) (t q : ℕ) (s : Date) → recordOk r ≡ true → (t ≤ 2 ^ 40) × (q ≤ 2 ^ 41) → s .0 ≡ startAt r t q
+    → (s .0 ≡ startAt r t q) × (s .0 ≤ 2 ^ 42)
+begun r t q s ok h e =
+    let w = sound r ok .window in
+    let low : startAt r t q ≤ 2 ^ 42 = start-low r t q (omega arith) (h .0) (h .1) in
+    (e, omega (arith, e, low))
+
+-- four dates with these numbers are the offer
+dated : (start end first last : Date) (s e d : ℕ) → start .0 ≡ s → end .0 ≡ e → first .0 ≡ start .0 + d → last .0 ≡ end .0 + d
+    → offered s e d d ≡ record { number = 0; dates = record { send = record { start = start; end = end }; recv = record { start = first; end = last } } }
+dated start end first last s e d hs he hf hl = rw (← hs, ← he, ← hf, ← hl)
+
+-- an offer has room in the budget
+pub offer-room : (r : Queue) (t : ℕ) (b : Bundle) → answerAt r t b .number ≡ 0 → queueAt r (b .priority .0) + b .size .0 ≤ budgetAt r (b .priority .0)
+unfolding answerAt
+offer-room r t b =
+    let p = b .priority .0 in
+    unless-keeps (λ (o : Offer). o .number ≡ 0 → queueAt r p + b .size .0 ≤ budgetAt r p) (leb (queueAt r p + b .size .0) (budgetAt r p)) _ _
+    (λ _ e. absurd (omega arith)) (λ h _. leb-true _ _ h)
+
+-- and a budget is at most 2^38
+pub budget-low : (r : Queue) (p : ℕ) → recordOk r ≡ true → budgetAt r p ≤ 2 ^ 38
+budget-low r p ok =
+    let s = sound r ok in
+    pick-keeps (λ (n : ℕ). n ≤ 2 ^ 38) (r .flags .budgeted) _ _ (λ _. s .budget (classOf (r .classes) p)) (λ _. s .total)
+
+module _ (r : Queue) (t : ℕ) (b : Bundle) (queue budget : Volume)
+    (q : queue .0 ≡ queueAt r (b .priority .0)) (g : budget .0 ≡ budgetAt r (b .priority .0)) where
+  pub answer-over : budget .0 < queue .0 + b .size .0 → answerAt r t b ≡ refused 7
+  unfolding answerAt
+  answer-over h =
+      let over : budgetAt r (b .priority .0) < queueAt r (b .priority .0) + b .size .0 = omega arith in unless-stop _ _ _ (lt-leb _ _ over)
+
+  module _ (h : queue .0 + b .size .0 ≤ budget .0) (start : Date) (s : start .0 ≡ startAt r t (queue .0)) where
+    starts : start .0 ≡ startAt r t (queueAt r (b .priority .0))
+    starts = s ∙ ap (startAt r t) q
+
+    fits : leb (queueAt r (b .priority .0) + b .size .0) (budgetAt r (b .priority .0)) ≡ true
+    fits = let k : queueAt r (b .priority .0) + b .size .0 ≤ budgetAt r (b .priority .0) = omega arith in le-leb _ _ k
+
+    ends : start .0 + b .size .0 / r .rate .0 ≡ startAt r t (queueAt r (b .priority .0)) + b .size .0 / r .rate .0
+    ends = ap (λ (n : ℕ). n + b .size .0 / r .rate .0) starts
+
+    pub answer-late : r .window .end .0 < start .0 + b .size .0 / r .rate .0 → answerAt r t b ≡ refused 7
+    unfolding answerAt
+    answer-late k = unless-go _ _ _ fits ∙ unless-stop _ _ _ (lt-leb _ _ (rw ends at k))
+
+    pub answer-dates : (end first last : Date) → end .0 ≡ start .0 + b .size .0 / r .rate .0 → end .0 ≤ r .window .end .0
+        → first .0 ≡ start .0 + r .delay .0
+        → last .0 ≡ end .0 + r .delay .0
+        → answerAt r t b ≡ record { number = 0; dates = record { send = record { start = start; end = end }; recv = record { start = first; end = last } } }
+    unfolding answerAt
+    answer-dates end first last e k f l =
+        unless-go _ _ _ fits
+        ∙ unless-go _ _ _ (le-leb _ _ (rw (e, ends) at k))
+        ∙ dated start end first last _ _ _ starts (e ∙ ends) f l
+
+-- past the two refusals the dry run is the offer
+pub dry-run-is : (r : Queue) (at : Date) (b : Bundle) → recordOk r ≡ true → bundleOk at b ≡ true → dryRunOf r at b ≡ answerAt r (at .0) b
+unfolding dryRunOf
+dry-run-is r at b h k = unless-go _ _ _ h ∙ unless-go _ _ _ k

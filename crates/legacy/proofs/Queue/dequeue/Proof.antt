@@ -1,0 +1,68 @@
+-- `legacy::Queue::dequeue` meets its contract: each test that fails has its refusal.
+use borrow.Author.Needs.{needs}
+use mathlib.Core.Path.{sym, _∙_}
+use Rattle.units.proofs.Logic.{unless-go, unless-stop}
+use Rattle.units.proofs.Choice.{pick-yes, pick-no, told-yes, told-no}
+use Rattle.legacy.specs.Queueing.{dequeueOf}
+use Rattle.legacy.proofs.Queue.dequeue.Statement.{statement}
+use Rattle.legacy.proofs.Queue.dequeue.Tie as tie
+
+ok-requires : tie.Need-ok-requires
+ok-requires c κs = search needs
+
+refused-queueing-requires : tie.Need-refused-queueing-requires
+refused-queueing-requires c κs = search needs
+
+returns : tie.Need-returns
+unfolding dequeueOf
+returns c = c .refused-queueing .ensures ∙ sym (unless-stop _ _ _ (told-no (c .before .before .ok .ensures) (c .before .if1 .taken)))
+
+ok-requires-2 : tie.Need-ok-requires-2
+ok-requires-2 c κs = search needs
+
+refused-queueing-requires-2 : tie.Need-refused-queueing-requires-2
+refused-queueing-requires-2 c κs = search needs
+
+returns-2 : tie.Need-returns-2
+unfolding dequeueOf
+returns-2 c =
+    let one = c .before .before .before in
+    c .refused-queueing2 .ensures ∙ sym (unless-go _ _ _ (told-yes (one .before .ok .ensures) (one .if1 .left)) ∙ unless-stop _ _ _ (told-no (c .before .before .ok2 .ensures) (c .before .if2 .taken)))
+
+refused-queueing-requires-3 : tie.Need-refused-queueing-requires-3
+refused-queueing-requires-3 c κs = search needs
+
+returns-3 : tie.Need-returns-3
+unfolding dequeueOf
+returns-3 c =
+    let two = c .before .before .before in
+    let one = two .before .before in
+    c .refused-queueing3 .ensures ∙ sym (unless-go _ _ _ (told-yes (one .before .ok .ensures) (one .if1 .left)) ∙ unless-go _ _ _ (told-yes (two .before .ok2 .ensures) (two .if2 .left)) ∙ pick-yes _ _ _ (c .before .if3 .taken))
+
+pull-requires : tie.Need-pull-requires
+pull-requires c κs =
+    let two = c .before .before in
+    let one = two .before .before in
+    told-yes (one .before .ok .ensures) (one .if1 .left)
+
+returns-4 : tie.Need-returns-4
+unfolding dequeueOf
+returns-4 c =
+    let two = c .before .before .before in
+    let one = two .before .before in
+    c .pull .ensures ∙ sym (unless-go _ _ _ (told-yes (one .before .ok .ensures) (one .if1 .left)) ∙ unless-go _ _ _ (told-yes (two .before .ok2 .ensures) (two .if2 .left)) ∙ pick-no _ _ _ (c .before .if3 .left))
+
+pub dequeue-spec : {M : Type 1} → statement M
+dequeue-spec =
+    tie.close
+    (tie.spec
+    ok-requires
+    refused-queueing-requires
+    returns
+    ok-requires-2
+    refused-queueing-requires-2
+    returns-2
+    refused-queueing-requires-3
+    returns-3
+    pull-requires
+    returns-4)

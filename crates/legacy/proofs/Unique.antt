@@ -1,0 +1,77 @@
+-- Each public call's promise determines its answer and the record handed back: two answers that meet it are equal. `Post` is the reading of the contract in src/.
+use Prim.Native.Nat.{ℕ}
+use mathlib.Core.Bool.{Bool}
+use mathlib.Core.Path.{_≡_, sym, _∙_}
+use mathlib.Core.List.{List}
+use borrow.Fn.Kinds.{endedOf}
+use denote.Triple.Clauses.{AtExit}
+use Rattle.units.specs.declared.Date.{Date}
+use Rattle.units.specs.declared.Volume.{Volume}
+use Rattle.units.specs.declared.Rate.{Rate}
+use Rattle.units.specs.declared.Delay.{Delay}
+use Rattle.units.specs.declared.Interval.{Interval}
+use Rattle.units.specs.declared.TxData.{TxData}
+use Rattle.units.specs.declared.Bundle.{Bundle}
+use Rattle.units.specs.declared.Offer.{Offer}
+use Rattle.legacy.specs.declared.Flags.{Flags}
+use Rattle.legacy.specs.declared.Queue.{Queue}
+use Rattle.legacy.specs.declared.Opened.{Opened}
+use Rattle.legacy.specs.declared.Booked.{Booked}
+use Rattle.legacy.specs.declared.Listing.{Listing}
+use Rattle.legacy.proofs.Queue.open.Kinds as open-kinds
+use Rattle.legacy.proofs.Queue.open.Reads as open-reads
+use Rattle.legacy.proofs.Queue.ok.Kinds as ok-kinds
+use Rattle.legacy.proofs.Queue.ok.Reads as ok-reads
+use Rattle.legacy.proofs.Queue.dry_run.Kinds as dry-run-kinds
+use Rattle.legacy.proofs.Queue.dry_run.Reads as dry-run-reads
+use Rattle.legacy.proofs.Queue.book.Kinds as book-kinds
+use Rattle.legacy.proofs.Queue.book.Reads as book-reads
+use Rattle.legacy.proofs.Queue.enqueue.Kinds as enqueue-kinds
+use Rattle.legacy.proofs.Queue.enqueue.Reads as enqueue-reads
+use Rattle.legacy.proofs.Queue.dequeue.Kinds as dequeue-kinds
+use Rattle.legacy.proofs.Queue.dequeue.Reads as dequeue-reads
+use Rattle.legacy.proofs.Queue.list.Kinds as list-kinds
+use Rattle.legacy.proofs.Queue.list.Reads as list-reads
+
+pub open-unique : (w : Interval) (rate : Rate) (d : Delay) (n : ℕ) (flags : Flags) (budgets : List Volume)
+    (s s′ : AtExit (endedOf 0 open-kinds.ps open-kinds.r) tt) (r q : Opened)
+    → open-reads.Post tt (w, (rate, (d, (n, (flags, (budgets, tt)))))) r s
+    → open-reads.Post tt (w, (rate, (d, (n, (flags, (budgets, tt)))))) q s′
+    → r ≡ q
+open-unique w rate d n flags budgets s s′ r q h k = h ∙ sym k
+
+pub ok-unique : (self : Queue) (s s′ : AtExit (endedOf 0 ok-kinds.ps ok-kinds.r) tt) (r q : Bool)
+    → ok-reads.Post tt (self, tt) r s
+    → ok-reads.Post tt (self, tt) q s′
+    → r ≡ q
+ok-unique self s s′ r q h k = h ∙ sym k
+
+pub dry-run-unique : (self : Queue) (at : Date) (b : Bundle) (s s′ : AtExit (endedOf 0 dry-run-kinds.ps dry-run-kinds.r) tt) (r q : Offer)
+    → dry-run-reads.Post tt (self, (at, (b, tt))) r s
+    → dry-run-reads.Post tt (self, (at, (b, tt))) q s′
+    → r ≡ q
+dry-run-unique self at b s s′ r q h k = h ∙ sym k
+
+pub book-unique : (self : Queue) (at : Date) (b : Bundle) (d : TxData) (s s′ : AtExit (endedOf 0 book-kinds.ps book-kinds.r) tt) (r q : Booked)
+    → book-reads.Post tt (self, (at, (b, (d, tt)))) r s
+    → book-reads.Post tt (self, (at, (b, (d, tt)))) q s′
+    → r ≡ q
+book-unique self at b d s s′ r q h k = h ∙ sym k
+
+pub enqueue-unique : (self : Queue) (b : Bundle) (s s′ : AtExit (endedOf 0 enqueue-kinds.ps enqueue-kinds.r) tt) (r q : Booked)
+    → enqueue-reads.Post tt (self, (b, tt)) r s
+    → enqueue-reads.Post tt (self, (b, tt)) q s′
+    → r ≡ q
+enqueue-unique self b s s′ r q h k = h ∙ sym k
+
+pub dequeue-unique : (self : Queue) (b : Bundle) (s s′ : AtExit (endedOf 0 dequeue-kinds.ps dequeue-kinds.r) tt) (r q : Booked)
+    → dequeue-reads.Post tt (self, (b, tt)) r s
+    → dequeue-reads.Post tt (self, (b, tt)) q s′
+    → r ≡ q
+dequeue-unique self b s s′ r q h k = h ∙ sym k
+
+pub list-unique : (self : Queue) (s s′ : AtExit (endedOf 0 list-kinds.ps list-kinds.r) tt) (r q : Listing)
+    → list-reads.Post tt (self, tt) r s
+    → list-reads.Post tt (self, tt) q s′
+    → r ≡ q
+list-unique self s s′ r q h k = h ∙ sym k

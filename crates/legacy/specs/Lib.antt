@@ -1,0 +1,6 @@
+pub mod Open
+pub mod Record
+pub mod DryRun
+pub mod Queueing
+pub mod Book
+pub mod List

@@ -1,0 +1,14 @@
+pub mod Abs
+pub mod Back
+pub mod Steps
+pub mod Turned
+pub mod Capped
+pub mod Range
+pub mod Near
+pub mod Halving
+pub mod Order
+pub mod Crossing
+pub mod Ends
+pub mod EndLaws
+pub mod Unique
+pub mod Cases

@@ -1,0 +1,109 @@
+-- `poly::horner` meets its contract: each step's result is read back as the value after that step.
+use mathlib.Core.Path.{_≡_, refl}
+use lib.Dec.{lit<}
+use lib.IntN.{ℤ, pos, natAbs, _*ℤ_}
+use Prim.Native.Nat.{ℕ, _≤_, _^_}
+use mir.Syntax.{w64}
+use mir.Val.{SFits}
+use mir.Facts.{toZ-ofZ}
+use Rattle.poly.specs.Poly.{stepOf, magOf, hornerOf}
+use Rattle.poly.proofs.Back.{rd}
+use Rattle.poly.proofs.Steps.{V3, V2, V1, V0, asks2, asks1, asks0, fits-step, horner-fits}
+use Rattle.poly.proofs.horner.Statement.{statement}
+use Rattle.poly.proofs.horner.Tie as tie
+
+-- a call of `step` on locals that are read back as v, d and c
+module _ (z y x : ℤ) {v d c : ℤ} (k : ℕ) (ev : rd z ≡ v) (ed : rd y ≡ d) (ec : rd x ≡ c) (h : magOf (natAbs v) (natAbs d) c k ≤ 2 ^ 61) where
+  step-asks : magOf (natAbs (rd z)) (natAbs (rd y)) (rd x) k ≤ 2 ^ 61
+  step-asks = rw (ev, ed, ec) h
+
+  step-back : {r : ℤ} → r ≡ stepOf (rd z) (rd y) (rd x) k → rd r ≡ stepOf v d c k
+  step-back e = rw (e, ev, ed, ec) (toZ-ofZ (fits-step v d c k h))
+
+module _ (s : tie.Start) where
+  abbrev d : ℤ
+  d = s .args .d
+
+  abbrev v3 : ℤ
+  v3 = V3 (s .args .c3) d
+
+  abbrev v2 : ℤ
+  v2 = V2 (s .args .c2) (s .args .c3) d
+
+  abbrev v1 : ℤ
+  v1 = V1 (s .args .c1) (s .args .c2) (s .args .c3) d
+
+  abbrev v0 : ℤ
+  v0 = V0 (s .args .c0) (s .args .c1) (s .args .c2) (s .args .c3) d
+
+  d-back : rd d ≡ d
+  d-back = toZ-ofZ (s .fits .d)
+
+  h2 : magOf (natAbs v3) (natAbs d) (s .args .c2) 3 ≤ 2 ^ 61
+  h2 = asks2 _ _ _ _ d (s .pre)
+
+  h1 : magOf (natAbs v2) (natAbs d) (s .args .c1) 2 ≤ 2 ^ 61
+  h1 = asks1 _ _ _ _ d (s .pre)
+
+  h0 : magOf (natAbs v1) (natAbs d) (s .args .c0) 1 ≤ 2 ^ 61
+  h0 = asks0 _ _ _ _ d (s .pre)
+
+  value-fits : SFits w64 (v0 *ℤ d)
+  unfolding hornerOf
+  value-fits = horner-fits _ _ _ _ d (s .pre)
+
+at3 : (c : tie.After-step) → rd (c .step .result) ≡ v3 (c .before)
+at3 c =
+    let s = c .before in
+    step-back (pos 0) (d s) (s .args .c3) 4 refl (d-back s) (toZ-ofZ (s .fits .c3)) (s .pre .r3) (c .step .ensures)
+
+at2 : (c : tie.After-step2) → rd (c .step2 .result) ≡ v2 (c .before .before)
+at2 c =
+    let s = c .before .before in
+    step-back (c .before .step .result) (d s) (s .args .c2) 3 (at3 (c .before)) (d-back s) (toZ-ofZ (s .fits .c2)) (h2 s) (c .step2 .ensures)
+
+at1 : (c : tie.After-step3) → rd (c .step3 .result) ≡ v1 (c .before .before .before)
+at1 c =
+    let s = c .before .before .before in
+    step-back (c .before .step2 .result) (d s) (s .args .c1) 2 (at2 (c .before)) (d-back s) (toZ-ofZ (s .fits .c1)) (h1 s) (c .step3 .ensures)
+
+at0 : (c : tie.After-step4) → rd (c .step4 .result) ≡ v0 (c .before .before .before .before)
+at0 c =
+    let s = c .before .before .before .before in
+    step-back (c .before .step3 .result) (d s) (s .args .c0) 1 (at1 (c .before)) (d-back s) (toZ-ofZ (s .fits .c0)) (h0 s) (c .step4 .ensures)
+
+abbrev start : tie.After-step4 → tie.Start
+start c = c .before .before .before .before
+
+product : (c : tie.After-step4) → rd (c .step4 .result) *ℤ rd (d (start c)) ≡ v0 (start c) *ℤ d (start c)
+product c = rw (at0 c, d-back (start c))
+
+step-requires : tie.Need-step-requires
+step-requires c κs = (lit< tt, lit< tt, step-asks (pos 0) (d c) (c .args .c3) 4 refl (d-back c) (toZ-ofZ (c .fits .c3)) (c .pre .r3))
+
+step-requires-2 : tie.Need-step-requires-2
+step-requires-2 c κs =
+    let s = c .before in
+    (lit< tt, lit< tt, step-asks (c .step .result) (d s) (s .args .c2) 3 (at3 c) (d-back s) (toZ-ofZ (s .fits .c2)) (h2 s))
+
+step-requires-3 : tie.Need-step-requires-3
+step-requires-3 c κs =
+    let s = c .before .before in
+    (lit< tt, lit< tt, step-asks (c .step2 .result) (d s) (s .args .c1) 2 (at2 c) (d-back s) (toZ-ofZ (s .fits .c1)) (h1 s))
+
+step-requires-4 : tie.Need-step-requires-4
+step-requires-4 c κs =
+    let s = c .before .before .before in
+    (lit< tt, lit< tt, step-asks (c .step3 .result) (d s) (s .args .c0) 1 (at1 c) (d-back s) (toZ-ofZ (s .fits .c0)) (h0 s))
+
+mul-requires : tie.Need-mul-requires
+mul-requires c κs = rw (product c) (value-fits (start c))
+
+returns : tie.Need-returns
+unfolding hornerOf
+returns c = rw (c .mul .ensures, product (c .before)) (toZ-ofZ (value-fits (start (c .before))))
+
+pub horner-spec : {M : Type 1} → statement M
+horner-spec =
+    tie.close
+    (tie.spec step-requires step-requires-2 step-requires-3 step-requires-4 mul-requires returns)

@@ -1,0 +1,176 @@
+-- `poly::in_range` meets its contract: each capped step is the range rule's, and the first that passes the limit answers no.
+use borrow.Author.Needs.{needs}
+use mathlib.Core.Bool.{true}
+use mathlib.Core.Path.{_≡_, refl, sym, _∙_}
+use Prim.Native.Nat.{ℕ, _*_, _^_}
+use native.Mathlib.Omega.{arith}
+use lib.Dec.{leb}
+use Rattle.units.proofs.Logic.{both-go, both-stop}
+use Rattle.poly.specs.Poly.{rangeOk}
+use Rattle.poly.proofs.Abs.{abs-i64}
+use Rattle.poly.proofs.Capped.{capped, capped-step, capped-within, capped-beyond, capped-test, read-abs, read-quot, read-whole}
+use Rattle.poly.proofs.Steps.{M3, M2, M1, M0}
+use Rattle.poly.proofs.in_range.Statement.{statement}
+use Rattle.poly.proofs.in_range.Tie as tie
+
+module _ (s : tie.Start) where
+  abbrev m3 : ℕ
+  m3 = M3 (s .args .c3) (s .args .m)
+
+  abbrev m2 : ℕ
+  m2 = M2 (s .args .c2) (s .args .c3) (s .args .m)
+
+  abbrev m1 : ℕ
+  m1 = M1 (s .args .c1) (s .args .c2) (s .args .c3) (s .args .m)
+
+  abbrev m0 : ℕ
+  m0 = M0 (s .args .c0) (s .args .c1) (s .args .c2) (s .args .c3) (s .args .m)
+
+-- the parameters, from the place past each test
+abbrev start3 : tie.Else1 → tie.Start
+start3 c = c .before .before .before
+
+abbrev start2 : tie.Else2 → tie.Start
+start2 c = start3 (c .before .before .before)
+
+abbrev start1 : tie.Else3 → tie.Start
+start1 c = start2 (c .before .before .before)
+
+abbrev start0 : tie.Else4 → tie.Start
+start0 c = start1 (c .before .before .before)
+
+-- each step's result, and that it is the magnitude itself where the test held
+at3 : (c : tie.After-mag-step) → c .mag-step .result ≡ capped (m3 (c .before .before))
+at3 c =
+    let s = c .before .before in
+    capped-step 0 (s .args .m) _ _ (s .args .c3) 4 refl
+    (read-quot (s .args .c3) (s .fits .c3) _ (c .before .magnitude .ensures) 4) (c .mag-step .ensures)
+
+is3 : (c : tie.Else1) → c .before .mag-step .result ≡ m3 (start3 c)
+is3 c = omega (arith, at3 (c .before))
+
+at2 : (c : tie.After-mag-step2) → c .mag-step2 .result ≡ capped (m2 (start3 (c .before .before)))
+at2 c =
+    let s = start3 (c .before .before) in
+    capped-step _ (s .args .m) _ _ (s .args .c2) 3 (is3 (c .before .before))
+    (read-quot (s .args .c2) (s .fits .c2) _ (c .before .magnitude2 .ensures) 3) (c .mag-step2 .ensures)
+
+is2 : (c : tie.Else2) → c .before .mag-step2 .result ≡ m2 (start2 c)
+is2 c = omega (arith, at2 (c .before))
+
+at1 : (c : tie.After-mag-step3) → c .mag-step3 .result ≡ capped (m1 (start2 (c .before .before)))
+at1 c =
+    let s = start2 (c .before .before) in
+    capped-step _ (s .args .m) _ _ (s .args .c1) 2 (is2 (c .before .before))
+    (read-quot (s .args .c1) (s .fits .c1) _ (c .before .magnitude3 .ensures) 2) (c .mag-step3 .ensures)
+
+is1 : (c : tie.Else3) → c .before .mag-step3 .result ≡ m1 (start1 c)
+is1 c = omega (arith, at1 (c .before))
+
+at0 : (c : tie.After-mag-step4) → c .mag-step4 .result ≡ capped (m0 (start1 (c .before .before)))
+at0 c =
+    let s = start1 (c .before .before) in
+    capped-step _ (s .args .m) _ _ (s .args .c0) 1 (is1 (c .before .before))
+    (read-whole (s .args .c0) (s .fits .c0) _ (c .before .magnitude4 .ensures)) (c .mag-step4 .ensures)
+
+is0 : (c : tie.Else4) → c .before .mag-step4 .result ≡ m0 (start0 c)
+is0 c = omega (arith, at0 (c .before))
+
+last : (c : tie.After-mag-step5) → c .mag-step5 .result ≡ capped (m0 (start0 (c .before)) * start0 (c .before) .args .m)
+last c = c .mag-step5 .ensures ∙ rw (is0 (c .before)) (omega arith)
+
+-- the tests that held
+ok3 : (c : tie.Else1) → leb (m3 (start3 c)) (2 ^ 61) ≡ true
+ok3 c = capped-within _ _ (at3 (c .before)) (c .if1 .left)
+
+ok2 : (c : tie.Else2) → leb (m2 (start2 c)) (2 ^ 61) ≡ true
+ok2 c = capped-within _ _ (at2 (c .before)) (c .if2 .left)
+
+ok1 : (c : tie.Else3) → leb (m1 (start1 c)) (2 ^ 61) ≡ true
+ok1 c = capped-within _ _ (at1 (c .before)) (c .if3 .left)
+
+ok0 : (c : tie.Else4) → leb (m0 (start0 c)) (2 ^ 61) ≡ true
+ok0 c = capped-within _ _ (at0 (c .before)) (c .if4 .left)
+
+magnitude-requires : tie.Need-magnitude-requires
+magnitude-requires c κs = search needs
+
+mag-step-requires : tie.Need-mag-step-requires
+mag-step-requires c κs = search needs
+
+returns : tie.Need-returns
+unfolding rangeOk
+returns c = sym (both-stop _ _ (capped-beyond _ _ (at3 (c .before)) (c .if1 .taken)))
+
+magnitude-requires-2 : tie.Need-magnitude-requires-2
+magnitude-requires-2 c κs = search needs
+
+mag-step-requires-2 : tie.Need-mag-step-requires-2
+mag-step-requires-2 c κs = search needs
+
+returns-2 : tie.Need-returns-2
+unfolding rangeOk
+returns-2 c =
+    sym (both-go _ _ (ok3 (c .before .before .before)) ∙ both-stop _ _ (capped-beyond _ _ (at2 (c .before)) (c .if2 .taken)))
+
+magnitude-requires-3 : tie.Need-magnitude-requires-3
+magnitude-requires-3 c κs = search needs
+
+mag-step-requires-3 : tie.Need-mag-step-requires-3
+mag-step-requires-3 c κs = search needs
+
+returns-3 : tie.Need-returns-3
+unfolding rangeOk
+returns-3 c =
+    let e = c .before .before .before in
+    sym
+    (both-go _ _ (ok3 (e .before .before .before)) ∙ both-go _ _ (ok2 e)
+    ∙ both-stop _ _ (capped-beyond _ _ (at1 (c .before)) (c .if3 .taken)))
+
+magnitude-requires-4 : tie.Need-magnitude-requires-4
+magnitude-requires-4 c κs = search needs
+
+mag-step-requires-4 : tie.Need-mag-step-requires-4
+mag-step-requires-4 c κs =
+    let s = start1 (c .before) in
+    (search needs, omega (arith, read-abs (s .args .c0) (s .fits .c0) _ (c .magnitude4 .ensures), abs-i64 (s .args .c0) (s .fits .c0)))
+
+returns-4 : tie.Need-returns-4
+unfolding rangeOk
+returns-4 c =
+    let e = c .before .before .before in
+    let f = e .before .before .before in
+    sym
+    (both-go _ _ (ok3 (f .before .before .before)) ∙ both-go _ _ (ok2 f) ∙ both-go _ _ (ok1 e)
+    ∙ both-stop _ _ (capped-beyond _ _ (at0 (c .before)) (c .if4 .taken)))
+
+mag-step-requires-5 : tie.Need-mag-step-requires-5
+mag-step-requires-5 c κs = search needs
+
+returns-5 : tie.Need-returns-5
+unfolding rangeOk
+returns-5 c =
+    let d = c .before in
+    let e = d .before .before .before in
+    let f = e .before .before .before in
+    capped-test _ _ (last c)
+    ∙ sym (both-go _ _ (ok3 (f .before .before .before)) ∙ both-go _ _ (ok2 f) ∙ both-go _ _ (ok1 e) ∙ both-go _ _ (ok0 d))
+
+pub in-range-spec : {M : Type 1} → statement M
+in-range-spec =
+    tie.close
+    (tie.spec
+    magnitude-requires
+    mag-step-requires
+    returns
+    magnitude-requires-2
+    mag-step-requires-2
+    returns-2
+    magnitude-requires-3
+    mag-step-requires-3
+    returns-3
+    magnitude-requires-4
+    mag-step-requires-4
+    returns-4
+    mag-step-requires-5
+    returns-5)

@@ -1,0 +1,76 @@
+-- What a record that passes its test is, and what an offer made on it is.
+use Prim.Native.Nat.{ℕ, _<_, _≤_, _^_}
+use mathlib.Core.Bool.{true}
+use mathlib.Core.Path.{_≡_}
+use native.Mathlib.Nat.{le-refl}
+use native.Mathlib.Omega.{arith}
+use lib.ListN.{drop}
+use borrow.Author.Tests.{le-leb}
+use Rattle.units.specs.declared.Interval.{Interval}
+use Rattle.units.specs.Logic.{allOf}
+use Rattle.units.proofs.Logic.{both-fst, both-snd, both-yes}
+use Rattle.units.proofs.Counted.{counted-some, counted-most, counted-holds}
+use Rattle.segmentation.specs.Capacity.{topOf}
+use Rattle.segmentation.specs.End.{endOf}
+use Rattle.contact.specs.Segments.{noVolume}
+use Rattle.contact.specs.Record.{contactOk, ratesOf}
+use Rattle.contact.proofs.Sound.{Sound, sound}
+use Rattle.free_list.specs.declared.Found.the-variants.{At}
+use Rattle.free_list.specs.Listed.{listOk}
+use Rattle.free_list.specs.Cut.{listed}
+use Rattle.free_list.proofs.ListedLaws.{Listed, listed-true}
+use Rattle.free_list.proofs.Offered.{Offered, exact-laws, offer-at}
+use Rattle.free_list.proofs.CutLaws.{offered-inside, offered-ends}
+use Rattle.free_list.proofs.CutList.{Kept}
+use Rattle.seg.specs.declared.FreeVolume.{FreeVolume}
+use Rattle.seg.specs.Record.{freeOk, recordOk}
+use Rattle.seg.specs.DryRun.{foundOf}
+
+pub record Facts (r : FreeVolume) : Type 0 where
+  pub test : contactOk (r .contact) ≡ true
+  pub contact : Sound (r .contact)
+  pub some : 1 ≤ r .free .count
+  pub few : r .free .count ≤ 64
+  pub rules : listOk (ratesOf (r .contact)) (r .contact .window .start .0) (r .contact .window .end .0) (listed (r .free)) ≡ true
+  pub free : Listed (ratesOf (r .contact)) (r .contact .window .start .0) (r .contact .window .end .0) (listed (r .free))
+  pub unused : allOf noVolume (drop (r .free .count) (r .free .segments)) ≡ true
+
+pub facts : (r : FreeVolume) → recordOk r ≡ true → Facts r
+unfolding recordOk freeOk
+facts r e =
+    let test = both-fst _ _ e in
+    let list = both-snd _ _ e in
+    let holds = counted-holds 64 (r .free .count) _ list in
+    record {
+      test = test;
+      contact = sound (r .contact) test;
+      some = counted-some 64 (r .free .count) _ list;
+      few = counted-most 64 (r .free .count) _ list;
+      rules = both-fst _ _ holds;
+      free = listed-true _ _ _ _ (both-fst _ _ holds);
+      unused = both-snd _ _ holds;
+    }
+
+-- a contact and a free list that keep their rules are a record that does
+pub record-kept : (r : FreeVolume) → contactOk (r .contact) ≡ true
+    → Kept (ratesOf (r .contact)) (r .contact .window .start .0) (r .contact .window .end .0) (r .free) → recordOk r ≡ true
+unfolding recordOk freeOk
+record-kept r e k =
+    both-yes _ _ e
+    (both-yes _ _ (le-leb _ _ (k .some)) (both-yes _ _ (le-leb _ _ (k .few)) (both-yes _ _ (k .rules) (k .unused))))
+
+module _ (r : FreeVolume) (q : Facts r) (t v : ℕ) (pos : 0 < v) (i : ℕ) (send : Interval) (h : foundOf r t v ≡ At i send) where
+  -- the offer stands at a listed segment, with the laws of the end rule
+  pub found-offered : Offered (ratesOf (r .contact)) (topOf (ratesOf (r .contact))) (listed (r .free)) i (send .start .0) (send .end .0) v
+  found-offered =
+      offer-at (endOf (ratesOf (r .contact))) (ratesOf (r .contact)) (r .contact .window .start .0) (r .contact .window .end .0) (topOf (ratesOf (r .contact))) t v send
+      (exact-laws (ratesOf (r .contact)) (r .contact .window .start .0)) pos (listed (r .free)) (r .contact .window .start .0) i (q .free) (le-refl _) h
+
+  -- its dates are in the window
+  pub found-dates : (send .start .0 ≤ 2 ^ 40) × (send .end .0 ≤ 2 ^ 40)
+  found-dates =
+      let l = ratesOf (r .contact) in
+      let in-window = offered-inside l (topOf l) (r .contact .window .end .0) (send .start .0) (send .end .0) v (listed (r .free)) _ i (q .free) found-offered in
+      let forth = offered-ends l (topOf l) (send .start .0) (send .end .0) v (listed (r .free)) i found-offered .1 .forth in
+      let date : r .contact .window .end .0 ≤ 2 ^ 40 = q .contact .date in
+      (omega (arith, in-window .1, forth), omega (arith, in-window .1))

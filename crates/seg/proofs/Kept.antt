@@ -1,0 +1,173 @@
+-- A record that an accepted opening or booking hands back keeps the record rules; a refused booking hands back the one that came.
+use Prim.Native.Nat.{ℕ, _<_, _≤_}
+use mathlib.Core.Bool.{Bool, true, false}
+use mathlib.Core.Path.{_≡_, refl, sym, ap, _∙_}
+use mathlib.Core.List.{List, [], _∷_}
+use mathlib.Core.Logic.{⊎-elim, _⊎_, inl, inr}
+use native.Mathlib.Omega.{arith}
+use lib.Dec.{eqb}
+use lib.ListN.{length, take}
+use borrow.Author.Tests.{eqb-true, eqb-false}
+use Rattle.units.specs.declared.Date.{Date}
+use Rattle.units.specs.declared.Interval.{Interval}
+use Rattle.units.specs.declared.TxData.{TxData}
+use Rattle.units.specs.declared.Bundle.{Bundle}
+use Rattle.units.specs.declared.Offer.{Offer}
+use Rattle.units.specs.Logic.{both, unless}
+use Rattle.units.specs.Limits.{bundleOk}
+use Rattle.units.specs.Answer.{offers, sameDates}
+use Rattle.units.proofs.Logic.{no-both, both-fst, both-snd}
+use Rattle.units.proofs.Loads.{asked-load, load}
+use Rattle.segmentation.specs.declared.RateSegment.{RateSegment}
+use Rattle.segmentation.specs.declared.DelaySegment.{DelaySegment}
+use Rattle.segmentation.specs.declared.Delays.{Delays}
+use Rattle.segmentation.specs.declared.Delays.the-variants.{Of, None as no-delay}
+use Rattle.segmentation.specs.Capacity.{capacity, topOf}
+use Rattle.segmentation.specs.Delay.{delaysOf, answerOf}
+use Rattle.segmentation.proofs.Capacity.{total-is}
+use Rattle.contact.specs.declared.Opened.{Opened as ContactOpened}
+use Rattle.contact.specs.Record.{contactOk, ratesOf, delayList}
+use Rattle.contact.specs.Open.{totalOf, contactOf, openContact}
+use Rattle.contact.proofs.Sound.{Sound, sound}
+use Rattle.contact.proofs.Fresh.{opened-ok, opened-total}
+use Rattle.contact.proofs.Refusals.{opened-is}
+use Rattle.free_list.specs.declared.Found.{Found}
+use Rattle.free_list.specs.declared.Found.the-variants.{At, None}
+use Rattle.free_list.specs.Cut.{listed, listIn, cutOf, cutList, wholeWindow}
+use Rattle.free_list.proofs.ListedLaws.{Listed}
+use Rattle.free_list.proofs.Offered.{offered-at}
+use Rattle.free_list.proofs.CutLaws.{cut-some, cut-listed}
+use Rattle.free_list.proofs.CutList.{kept-in, cut-number, cut-refused, cut-few, cut-list}
+use Rattle.seg.specs.declared.FreeVolume.{FreeVolume}
+use Rattle.seg.specs.declared.Opened.{Opened}
+use Rattle.seg.specs.declared.Booked.{Booked}
+use Rattle.seg.specs.Record.{recordOk}
+use Rattle.seg.specs.Open.{refusedOpening, openedOf, openOf}
+use Rattle.seg.specs.DryRun.{dryRunOf, foundOf}
+use Rattle.seg.specs.Book.{bookOf, bookedOf, refusedBooking}
+use Rattle.seg.proofs.Facts.{Facts, facts, record-kept, found-offered}
+use Rattle.seg.proofs.Calls.{dry-at, book-bundle, book-other, book-none, book-at}
+
+-- The opening.
+abbrev doneOf : Interval → ContactOpened → Opened
+doneOf w o =
+    record { number = 0; manager = record { contact = o .contact; free = listIn (wholeWindow w (o .total .0) ∷ []) } }
+
+zero-go : (w : Interval) (o : ContactOpened) (c : Bool) → eqb (o .number) 0 ≡ c → unless c (refusedOpening (o .number)) (doneOf w o) .number ≡ 0
+    → (o .number ≡ 0) × (unless c (refusedOpening (o .number)) (doneOf w o) ≡ doneOf w o)
+zero-go w o true e h = (eqb-true _ _ e, refl)
+zero-go w o false e h = absurd (eqb-false _ _ e h)
+
+module _ (w : Interval) (rates : List RateSegment) (m : ℕ) (delays : List DelaySegment) (k : ℕ)
+    (rate-size : length rates ≡ 16) (delay-size : length delays ≡ 16) (zero : openOf w rates m delays k .number ≡ 0) where
+  -- what an accepted opening hands back
+  pub opened-manager : (openContact w rates m delays k .number ≡ 0)
+      × (openOf w rates m delays k .manager
+      ≡ record { contact = contactOf w rates m delays k; free = listIn (wholeWindow w (totalOf (take m rates)) ∷ []) })
+  unfolding openOf
+  opened-manager =
+      let z = zero-go w (openContact w rates m delays k) (eqb (openContact w rates m delays k .number) 0) refl zero in
+      (z .0, ap (λ (x : Opened). x .manager) (z .1) ∙ ap (λ (o : ContactOpened). doneOf w o .manager) (opened-is w rates m delays k (z .0) .0))
+
+  opened-contact : contactOk (contactOf w rates m delays k) ≡ true
+  opened-contact =
+      let z = opened-manager .0 in
+      sym (ap (λ (o : ContactOpened). contactOk (o .contact)) (opened-is w rates m delays k z .0)) ∙ opened-ok w rates m delays k rate-size delay-size z
+
+  pub opened-keeps : recordOk (openOf w rates m delays k .manager) ≡ true
+  unfolding Listed
+  opened-keeps =
+      let l = ratesOf (contactOf w rates m delays k) in
+      let q = sound (contactOf w rates m delays k) opened-contact in
+      let full : totalOf (take m rates) ≡ capacity l (w .start .0) (w .end .0) =
+      opened-total w rates m delays k rate-size (opened-manager .0) ∙ total-is l (w .start .0) (q .run) ∙ ap (capacity l (w .start .0)) (q .close) in
+      rw (opened-manager .1)
+      (record-kept _ opened-contact
+      (kept-in l (w .start .0) (w .end .0) (wholeWindow w (totalOf (take m rates)) ∷ []) (omega arith) (omega arith)
+      (omega arith, omega (arith, q .some), omega arith, omega arith, tt)))
+
+-- The booking.
+pub record Refused (r : FreeVolume) (a : Booked) : Type 0 where
+  pub number : a .number ≡ 0 → ⊥
+  pub same : a .manager ≡ r
+
+pub record Accepted (r : FreeVolume) (at : Date) (b : Bundle) (d : TxData) (a : Booked) : Type 0 where
+  pub some : 0 < b .size .0
+  pub place : ℕ
+  pub found : foundOf r (at .0) (b .size .0) ≡ At place (d .send)
+  pub few : length (cutOf (ratesOf (r .contact)) (listed (r .free)) place (d .send .start .0) (d .send .end .0) (b .size .0)) ≤ 64
+  pub number : a .number ≡ 0
+  pub manager : a .manager
+      ≡ record { contact = r .contact; free = listIn (cutOf (ratesOf (r .contact)) (listed (r .free)) place (d .send .start .0) (d .send .end .0) (b .size .0)) }
+
+refuse : (n : ℕ) (r : FreeVolume) (a : Booked) → (n ≡ 0 → ⊥) → a ≡ refusedBooking n r → Refused r a
+refuse n r a h e = record { number = λ z. h (sym (ap (λ (x : Booked). x .number) e) ∙ z); same = ap (λ (x : Booked). x .manager) e }
+
+-- the dates of an offer are those of the send interval
+offer-send : (s e : ℕ) (x : Delays) (d : TxData) → offers (answerOf s e x) d ≡ true → (s ≡ d .send .start .0) × (e ≡ d .send .end .0)
+unfolding offers sameDates
+offer-send s e (Of a b) d h =
+    let dates = both-snd _ _ h in (eqb-true _ _ (both-fst _ _ dates), eqb-true _ _ (both-fst _ _ (both-snd _ _ dates)))
+offer-send s e no-delay d h = absurd (no-both (both-fst _ _ h) refl)
+
+module _ (r : FreeVolume) (at : Date) (b : Bundle) (d : TxData) (ok : recordOk r ≡ true) where
+  abbrev booked : Booked
+  booked = bookOf r at b d
+
+  module _ (fits : bundleOk at b ≡ true) (i : ℕ) (send : Interval) (h : foundOf r (at .0) (b .size .0) ≡ At i send) where
+    at-place : offers (dryRunOf r at b) d ≡ true → (Refused r booked) ⊎ (Accepted r at b d booked)
+    at-place o =
+        let v = b .size .0 in
+        let l = ratesOf (r .contact) in
+        let dates = offer-send _ _ (delaysOf (delayList (r .contact)) (send .start .0) (send .end .0)) d (rw (dry-at r at b ok fits i send h) at o) in
+        let same : send ≡ d .send = ap (λ (x : ℕ). record { start = record { 0 = x }; end = send .end }) (dates .0) ∙ ap (λ (x : ℕ). record { start = d .send .start; end = record { 0 = x } }) (dates .1) in
+        let f : foundOf r (at .0) v ≡ At i (d .send) = h ∙ ap (λ (x : Interval). At i x) same in
+        let is : booked ≡ bookedOf r i (d .send) v = book-at r at b ok fits d i (d .send) f o in
+        ⊎-elim
+        (λ (z : cutList l (r .free) i (d .send .start .0) (d .send .end .0) v .number ≡ 0).
+        inr (record {
+          some = load b (asked-load at b fits) .some;
+          place = i;
+          found = f;
+          few = cut-few l (r .free) i (d .send .start .0) (d .send .end .0) v z;
+          number = ap (λ (x : Booked). x .number) is ∙ z;
+          manager = ap (λ (x : Booked). x .manager) is ∙ ap (λ x. record { contact = r .contact; free = x }) (cut-list l (r .free) i (d .send .start .0) (d .send .end .0) v z);
+        }))
+        (λ (z : cutList l (r .free) i (d .send .start .0) (d .send .end .0) v .number ≡ 10).
+        inl (record {
+          number = λ y. omega (arith, y, z, ap (λ (x : Booked). x .number) is);
+          same = ap (λ (x : Booked). x .manager) is ∙ ap (λ x. record { contact = r .contact; free = x }) (cut-refused l (r .free) i (d .send .start .0) (d .send .end .0) v (λ y. omega arith));
+        }))
+        (cut-number l (r .free) i (d .send .start .0) (d .send .end .0) v)
+
+  offered-go : bundleOk at b ≡ true → (i : ℕ) (send : Interval) → foundOf r (at .0) (b .size .0) ≡ At i send → (c : Bool) → offers (dryRunOf r at b) d ≡ c
+      → (Refused r booked) ⊎ (Accepted r at b d booked)
+  offered-go fits i send h true o = at-place fits i send h o
+  offered-go fits i send h false o = inl (refuse 9 r booked (λ z. omega arith) (book-other r at b ok fits d o))
+
+  found-go : bundleOk at b ≡ true → (f : Found) → foundOf r (at .0) (b .size .0) ≡ f → (Refused r booked) ⊎ (Accepted r at b d booked)
+  found-go fits (At i send) h = offered-go fits i send h (offers (dryRunOf r at b) d) refl
+  found-go fits None h = inl (refuse 9 r booked (λ z. omega arith) (book-none r at b ok fits d h))
+
+  bundle-go : (c : Bool) → bundleOk at b ≡ c → (Refused r booked) ⊎ (Accepted r at b d booked)
+  bundle-go true fits = found-go fits (foundOf r (at .0) (b .size .0)) refl
+  bundle-go false e = inl (refuse 2 r booked (λ z. omega arith) (book-bundle r at b ok d e))
+
+  -- a booking is refused, and the record is the one that came; or the offer is cut out of the free list
+  pub book-cases : (Refused r booked) ⊎ (Accepted r at b d booked)
+  book-cases = bundle-go (bundleOk at b) refl
+
+  -- no call ever meets refusal 1 after a fresh opening
+  pub book-keeps : recordOk (booked .manager) ≡ true
+  book-keeps =
+      ⊎-elim
+      (λ (x : Refused r booked). rw (x .same) ok)
+      (λ (x : Accepted r at b d booked).
+      let q = facts r ok in
+      let l = ratesOf (r .contact) in
+      let o = found-offered r q (at .0) (b .size .0) (x .some) (x .place) (d .send) (x .found) in
+      let at-list = offered-at l (topOf l) (listed (r .free)) (x .place) _ _ _ o .0 in
+      let some = cut-some l (topOf l) (r .contact .window .end .0) (d .send .start .0) (d .send .end .0) (b .size .0) (listed (r .free)) (x .place) (omega (arith, at-list)) in
+      let rules = cut-listed l (topOf l) (r .contact .window .end .0) (d .send .start .0) (d .send .end .0) (b .size .0) (listed (r .free)) _ (x .place) (q .free) o in
+      rw (x .manager) (record-kept _ (q .test) (kept-in l _ _ _ some (x .few) rules)))
+      book-cases

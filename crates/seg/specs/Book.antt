@@ -1,0 +1,40 @@
+-- 01, "Refusal numbers", Booking: 1, 2, 9, then 10; a refusal hands the record back as it came.
+use Prim.Native.Nat.{ℕ}
+use Rattle.units.specs.declared.Date.{Date}
+use Rattle.units.specs.declared.Interval.{Interval}
+use Rattle.units.specs.declared.TxData.{TxData}
+use Rattle.units.specs.declared.Bundle.{Bundle}
+use Rattle.units.specs.Logic.{unless}
+use Rattle.units.specs.Limits.{bundleOk}
+use Rattle.units.specs.Answer.{offers}
+use Rattle.free_list.specs.declared.Found.{Found}
+use Rattle.free_list.specs.declared.Found.the-variants.{At, None}
+use Rattle.free_list.specs.declared.Cut.{Cut}
+use Rattle.free_list.specs.Cut.{cutList}
+use Rattle.seg.specs.declared.FreeVolume.{FreeVolume}
+use Rattle.seg.specs.declared.Booked.{Booked}
+use Rattle.contact.specs.Record.{ratesOf}
+use Rattle.seg.specs.Record.{recordOk}
+use Rattle.seg.specs.DryRun.{dryRunOf, foundOf}
+
+abbrev pub refusedBooking : ℕ → FreeVolume → Booked
+refusedBooking n r = record { number = n; manager = r }
+
+-- the record with the segment at a place cut, or 10 and the record as it came
+abbrev pub bookedOf : FreeVolume → ℕ → Interval → ℕ → Booked
+bookedOf r i send v =
+    let done : Cut = cutList (ratesOf (r .contact)) (r .free) i (send .start .0) (send .end .0) v in
+    record { number = done .number; manager = record { contact = r .contact; free = done .list } }
+
+-- the cut at what the dry run found
+abbrev pub bookedAt : FreeVolume → Found → ℕ → Booked
+bookedAt r (At i send) v = bookedOf r i send v
+bookedAt r None v = refusedBooking 9 r
+
+-- the booking
+unfoldable pub bookOf : FreeVolume → Date → Bundle → TxData → Booked
+bookOf r at b d =
+    unless (recordOk r) (refusedBooking 1 r)
+    (unless (bundleOk at b) (refusedBooking 2 r)
+    (unless (offers (dryRunOf r at b) d) (refusedBooking 9 r)
+    (bookedAt r (foundOf r (at .0) (b .size .0)) (b .size .0))))

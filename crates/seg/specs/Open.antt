@@ -1,0 +1,25 @@
+-- 01, "Refusal numbers", Opening, and "Records": 3, 4, 6, 5; the whole window is listed, with the total volume.
+use Prim.Native.Nat.{ℕ}
+use mathlib.Core.List.{List, [], _∷_}
+use lib.Dec.{eqb}
+use Rattle.units.specs.declared.Interval.{Interval}
+use Rattle.units.specs.Logic.{unless}
+use Rattle.segmentation.specs.declared.RateSegment.{RateSegment}
+use Rattle.segmentation.specs.declared.DelaySegment.{DelaySegment}
+use Rattle.contact.specs.Open.{openContact, refusedContact}
+use Rattle.contact.specs.declared.Opened.{Opened as ContactOpened}
+use Rattle.free_list.specs.Cut.{listIn, wholeWindow}
+use Rattle.seg.specs.declared.Opened.{Opened}
+
+-- a refused opening returns an all-zero record
+abbrev pub refusedOpening : ℕ → Opened
+refusedOpening n = record { number = n; manager = record { contact = refusedContact n .contact; free = listIn [] } }
+
+abbrev pub openedOf : Interval → ContactOpened → Opened
+openedOf w o =
+    unless (eqb (o .number) 0) (refusedOpening (o .number))
+    (record { number = 0; manager = record { contact = o .contact; free = listIn (wholeWindow w (o .total .0) ∷ []) } })
+
+-- the opening
+unfoldable pub openOf : Interval → List RateSegment → ℕ → List DelaySegment → ℕ → Opened
+openOf w rates m delays k = openedOf w (openContact w rates m delays k)

@@ -1,0 +1,22 @@
+-- 01, "Records": a free-volume record keeps the contact's rules and lists 1 to 64 segments of free time; unused places are zero.
+use mathlib.Core.Bool.{Bool}
+use lib.Dec.{leb}
+use lib.ListN.{drop}
+use Rattle.units.specs.Logic.{both, allOf}
+use Rattle.contact.specs.declared.Contact.{Contact}
+use Rattle.contact.specs.Segments.{noVolume}
+use Rattle.contact.specs.Record.{contactOk, ratesOf}
+use Rattle.free_list.specs.declared.FreeList.{FreeList}
+use Rattle.free_list.specs.Listed.{listOk}
+use Rattle.free_list.specs.Cut.{listed}
+use Rattle.seg.specs.declared.FreeVolume.{FreeVolume}
+
+unfoldable pub freeOk : Contact → FreeList → Bool
+freeOk c f =
+    both (leb 1 (f .count))
+    (both (leb (f .count) 64)
+    (both (listOk (ratesOf c) (c .window .start .0) (c .window .end .0) (listed f))
+    (allOf noVolume (drop (f .count) (f .segments)))))
+
+unfoldable pub recordOk : FreeVolume → Bool
+recordOk r = both (contactOk (r .contact)) (freeOk (r .contact) (r .free))

@@ -1,0 +1,217 @@
+// The free-volume manager (seg.rs: SegmentationManager): open, dry run, book, list.
+use contact::Contact;
+use free_list::Found;
+use free_list::FreeList;
+use segmentation::DelaySegment;
+use segmentation::RateSegment;
+use units::Bundle;
+use units::Date;
+use units::Interval;
+use units::Offer;
+use units::TxData;
+use units::Volume;
+ghost use mathlib.Core.Path.{_≡_};
+ghost use mathlib.Core.Bool.{true};
+ghost use Prim.Native.Nat.{_<_};
+ghost use Rattle.free_list.specs.Granted.{Inside};
+ghost use Rattle.seg.specs.Open.{openOf, refusedOpening};
+ghost use Rattle.seg.specs.Record.{recordOk};
+ghost use Rattle.seg.specs.DryRun.{dryRunOf, foundOf};
+ghost use Rattle.seg.specs.Book.{bookOf, bookedOf, refusedBooking};
+ghost use Rattle.seg.specs.List.{listOf};
+
+pub struct FreeVolume {
+    pub contact: Contact,
+    pub free: FreeList,
+}
+
+// The answer of an opening: 01's number and the record, which is zero on a refusal.
+pub struct Opened {
+    pub number: u8,
+    pub manager: FreeVolume,
+}
+
+// The answer of a booking: 01's number and the record, which is the one that came on a refusal.
+pub struct Booked {
+    pub number: u8,
+    pub manager: FreeVolume,
+}
+
+// The answer of a list: 01's number and the listed segments, none on a refusal.
+pub struct Listing {
+    pub number: u8,
+    pub list: FreeList,
+}
+
+impl FreeVolume {
+    fn refused_opening(number: u8) -> Opened
+        ensures { λ r. ⌜ r ≡ refusedOpening number ⌝ }
+    {
+        let o = Contact::refused(number);
+        let contact = o.contact;
+        let free = FreeList::nothing();
+        Opened {
+            number: number,
+            manager: FreeVolume {
+                contact: contact,
+                free: free,
+            },
+        }
+    }
+
+    fn refused_booking(self, number: u8) -> Booked
+        ensures { λ r. ⌜ r ≡ refusedBooking number self ⌝ }
+    {
+        Booked {
+            number: number,
+            manager: self,
+        }
+    }
+
+    // new and try_init: 3, 4, 6, 5 in this order; the whole window is listed, with the total volume.
+    pub fn open(
+        window: Interval,
+        rates: [RateSegment; RateSegment::COUNT_MAX],
+        rate_count: usize,
+        delays: [DelaySegment; DelaySegment::COUNT_MAX],
+        delay_count: usize,
+    ) -> Opened
+        ensures { λ r. ⌜ r ≡ openOf window rates «rate_count» delays «delay_count» ⌝ }
+    {
+        let o = Contact::open(window, rates, rate_count, delays, delay_count);
+        let number = o.number;
+        if number != 0 {
+            return FreeVolume::refused_opening(number);
+        }
+        let contact = o.contact;
+        let total = o.total;
+        let free = FreeList::whole(window, total);
+        Opened {
+            number: 0,
+            manager: FreeVolume {
+                contact: contact,
+                free: free,
+            },
+        }
+    }
+
+    // Does the record keep its rules?
+    pub fn ok(self) -> bool
+        ensures { λ r. ⌜ r ≡ recordOk self ⌝ }
+    {
+        let contact = self.contact;
+        let free = self.free;
+        let window = contact.window;
+        let rates = contact.rates;
+        let m = contact.rate_count;
+        let segments = free.segments;
+        let n = free.count;
+        if !contact.ok() {
+            return false;
+        }
+        if n < 1 {
+            return false;
+        }
+        if FreeList::COUNT_MAX < n {
+            return false;
+        }
+        if !free_list::walk::listed_ok(rates, m, segments, n, window) {
+            return false;
+        }
+        free_list::unused(segments, n)
+    }
+
+    // The search of a dry run, on a record that keeps its rules.
+    fn search(self, at: Date, size: Volume) -> Found
+        requires { ⌜ recordOk self ≡ true ⌝ ∗ ⌜ 0 < size .0 ⌝ }
+        ensures { λ r. ⌜ r ≡ foundOf self (at .0) (size .0) ⌝ }
+    {
+        let contact = self.contact;
+        let free = self.free;
+        let window = contact.window;
+        let rates = contact.rates;
+        let m = contact.rate_count;
+        let segments = free.segments;
+        let n = free.count;
+        free_list::find_offer(rates, m, segments, n, window, at, size)
+    }
+
+    // dry_run_tx: 1, 2, then 7 or 8.
+    pub fn dry_run(self, at: Date, bundle: Bundle) -> Offer
+        ensures { λ r. ⌜ r ≡ dryRunOf self at bundle ⌝ }
+    {
+        if !self.ok() {
+            return Offer::refused(units::refusal::RECORD);
+        }
+        if !bundle.ok_at(at) {
+            return Offer::refused(units::refusal::BUNDLE);
+        }
+        let size = bundle.size;
+        let Found::At { place: _, send } = self.search(at, size) else {
+            return Offer::refused(units::refusal::NO_OFFER);
+        };
+        let contact = self.contact;
+        contact.answer(send)
+    }
+
+    // schedule_tx, with the time that the dry run was asked: 1, 2, 9, then 10.
+    pub fn book(self, at: Date, bundle: Bundle, dates: TxData) -> Booked
+        ensures { λ r. ⌜ r ≡ bookOf self at bundle dates ⌝ }
+    {
+        if !self.ok() {
+            return self.refused_booking(units::refusal::RECORD);
+        }
+        if !bundle.ok_at(at) {
+            return self.refused_booking(units::refusal::BUNDLE);
+        }
+        let size = bundle.size;
+        let Found::At { place, send } = self.search(at, size) else {
+            return self.refused_booking(units::refusal::NOT_OFFERED);
+        };
+        let contact = self.contact;
+        let offer = contact.answer(send);
+        if !offer.is(dates) {
+            return self.refused_booking(units::refusal::NOT_OFFERED);
+        }
+        self.cut(place, send, size)
+    }
+
+    // What a booking leaves of the record, on a record that keeps its rules.
+    fn cut(self, place: usize, send: Interval, size: Volume) -> Booked
+        requires { ⌜ recordOk self ≡ true ⌝ ∗ ⌜ Inside (self .free) place (size .0) ⌝ }
+        ensures { λ r. ⌜ r ≡ bookedOf self place send (size .0) ⌝ }
+    {
+        let contact = self.contact;
+        let rates = contact.rates;
+        let m = contact.rate_count;
+        let free = self.free;
+        let done = free.cut(rates, m, place, send, size);
+        let number = done.number;
+        let left = done.list;
+        Booked {
+            number: number,
+            manager: FreeVolume {
+                contact: contact,
+                free: left,
+            },
+        }
+    }
+
+    // The listed segments: 1.
+    pub fn list(self) -> Listing
+        ensures { λ r. ⌜ r ≡ listOf self ⌝ }
+    {
+        if !self.ok() {
+            let none = FreeList::nothing();
+            return Listing {
+                number: units::refusal::RECORD,
+                list: none,
+            };
+        }
+        let free = self.free;
+        Listing {
+            number: 0,
+            list: free,
+        }
+    }
+}
