@@ -1,7 +1,7 @@
 -- What holds of each refusal and of what is done where every test passes holds of the answer: the opening, a booking, enqueue and dequeue.
 use Prim.Native.Nat.{ℕ, _<_}
 use mathlib.Core.Bool.{true, false}
-use mathlib.Core.Path.{_≡_, refl}
+use mathlib.Core.Path.{_≡_}
 use mathlib.Core.List.{List}
 use lib.Dec.{leb, lit<}
 use lib.ListN.{take}

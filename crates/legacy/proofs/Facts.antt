@@ -1,6 +1,6 @@
 -- What the record's test tells: the window, the rate, the delay, the class count, and every queue and budget are inside their limits.
-use Prim.Native.Nat.{ℕ, zero, suc, _+_, _-_, _*_, _<_, _≤_, _^_}
-use mathlib.Core.Bool.{Bool, true}
+use Prim.Native.Nat.{ℕ, zero, suc, _-_, _*_, _<_, _≤_, _^_}
+use mathlib.Core.Bool.{true}
 use mathlib.Core.Path.{_≡_, sym, _∙_}
 use mathlib.Core.List.{List, [], _∷_}
 use native.Mathlib.Nat.{mul-le-mul, lt-of-le-of-lt}
@@ -10,8 +10,7 @@ use lib.ListN.{take, drop, getD}
 use borrow.Author.Tests.{leb-true, le-leb, eqb-true}
 use Rattle.units.specs.declared.Volume.{Volume}
 use Rattle.units.specs.declared.Interval.{Interval}
-use Rattle.units.specs.Logic.{both, pick, allOf}
-use Rattle.units.specs.Limits.{windowOk}
+use Rattle.units.specs.Logic.{pick, allOf}
 use Rattle.units.proofs.Logic.{both-fst, both-snd, all-go, all-none, all-head, all-tail}
 use Rattle.units.proofs.Windows.{Window, window}
 use Rattle.legacy.specs.declared.Flags.{Flags}

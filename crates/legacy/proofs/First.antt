@@ -1,5 +1,5 @@
 -- Laws of a change to each of a list's first k: store by store, its length, what it leaves alone, tests of it, and its undoing.
-use Prim.Native.Nat.{ℕ, zero, suc, _+_, _-_, _<_, _≤_}
+use Prim.Native.Nat.{ℕ, zero, suc, _+_, _-_, _≤_}
 use mathlib.Core.Bool.{Bool, true}
 use mathlib.Core.Path.{_≡_, refl, ap, _∙_}
 use mathlib.Core.List.{List, [], _∷_}
@@ -53,14 +53,6 @@ module _ {A : Type 0} (f : A → A) where
   first-drop (suc k) [] n h = refl
   first-drop (suc k) (a ∷ l) zero h = absurd (omega arith)
   first-drop (suc k) (a ∷ l) (suc n) h = first-drop k l n (omega arith)
-
-  -- and those below are changed
-  pub first-below : (k : ℕ) (l : List A) (i : ℕ) (z : A) → i < k → i < length l → getD (onFirst f k l) i z ≡ f (getD l i z)
-  unfolding onFirst
-  first-below zero l i z h j = absurd (omega arith)
-  first-below (suc k) [] i z h j = absurd (omega arith)
-  first-below (suc k) (a ∷ l) zero z h j = refl
-  first-below (suc k) (a ∷ l) (suc i) z h j = first-below k l i z (omega arith) (omega arith)
 
   pub first-length : (k : ℕ) (l : List A) → length (onFirst f k l) ≡ length l
   unfolding onFirst

@@ -1,5 +1,5 @@
 -- After an accepted enqueue and the same dequeue the record is as before.
-use Prim.Native.Nat.{ℕ, _+_, _-_, _≤_}
+use Prim.Native.Nat.{ℕ, _+_, _-_}
 use mathlib.Core.Bool.{true}
 use mathlib.Core.Path.{_≡_, refl, sym, ap, _∙_}
 use mathlib.Core.List.{List}
@@ -15,7 +15,7 @@ use Rattle.legacy.specs.declared.Queue.{Queue}
 use Rattle.legacy.specs.declared.Booked.{Booked}
 use Rattle.legacy.specs.Open.{atLeast}
 use Rattle.legacy.specs.Record.{recordOk}
-use Rattle.legacy.specs.Queueing.{addTo, takeFrom, withQueues, reached, enqueueAt, dequeueAt, enqueueOf, dequeueOf}
+use Rattle.legacy.specs.Queueing.{addTo, takeFrom, withQueues, reached, dequeueAt, enqueueOf, dequeueOf}
 use Rattle.legacy.proofs.Answers.{Manual, put-keeps, enqueue-keeps}
 use Rattle.legacy.proofs.First.{more, less, add-is, take-is, first-passes, first-undo}
 use Rattle.legacy.proofs.Kept.{enqueue-ok}

@@ -1,5 +1,5 @@
 -- Records that are handed back keep their rules; a refusal hands back the record as it came, an opening's a zero one.
-use Prim.Native.Nat.{ℕ, _-_, _≤_, _^_}
+use Prim.Native.Nat.{ℕ, _-_, _≤_}
 use mathlib.Core.Bool.{true}
 use mathlib.Core.Path.{_≡_, refl, ap, _∙_}
 use mathlib.Core.List.{List}

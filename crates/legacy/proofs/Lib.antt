@@ -9,3 +9,4 @@ pub mod Inverse
 pub mod Unique
 pub mod Cases
 pub mod Reach
+pub mod Stores

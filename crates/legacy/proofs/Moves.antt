@@ -1,7 +1,7 @@
 -- Enqueue and dequeue from what the code has worked out: the class, the test of the queues up to it, and the new queues.
 use Prim.Native.Nat.{ℕ, _+_, _-_, _≤_, _^_}
-use mathlib.Core.Bool.{Bool, true, false}
-use mathlib.Core.Path.{_≡_, sym, ap, _∙_}
+use mathlib.Core.Bool.{true, false}
+use mathlib.Core.Path.{_≡_, _∙_}
 use mathlib.Core.List.{List}
 use native.Mathlib.Omega.{arith}
 use lib.ListN.{take}
@@ -12,7 +12,6 @@ use Rattle.units.specs.Logic.{allOf}
 use Rattle.units.proofs.Logic.{unless-go, unless-stop}
 use Rattle.units.proofs.Each.{all-alike}
 use Rattle.legacy.specs.declared.Queue.{Queue}
-use Rattle.legacy.specs.declared.Booked.{Booked}
 use Rattle.legacy.specs.Open.{atMost, atLeast}
 use Rattle.legacy.specs.Record.{queueMax}
 use Rattle.legacy.specs.DryRun.{classOf}

@@ -1,19 +1,19 @@
 -- The offer, test by test, from what the code has worked out: the queue, the budget, the start and the two arrivals.
 use Prim.Native.Nat.{ℕ, _+_, _/_, _<_, _≤_, _^_}
-use mathlib.Core.Path.{_≡_, sym, ap, _∙_}
+use mathlib.Core.Bool.{true}
+use mathlib.Core.Path.{_≡_, refl, ap, _∙_}
 use native.Mathlib.Nat.{div-le-self}
 use native.Mathlib.Omega.{arith}
-use mathlib.Core.Bool.{true}
 use lib.Dec.{leb}
 use borrow.Author.Tests.{le-leb, lt-leb, leb-true}
 use Rattle.units.specs.declared.Date.{Date}
 use Rattle.units.specs.declared.Volume.{Volume}
 use Rattle.units.specs.declared.Bundle.{Bundle}
 use Rattle.units.specs.declared.Offer.{Offer}
+use Rattle.units.specs.Limits.{bundleOk}
 use Rattle.units.specs.Answer.{refused, offered}
 use Rattle.units.proofs.Logic.{pick-keeps, unless-keeps, unless-go, unless-stop}
 use Rattle.legacy.specs.declared.Queue.{Queue}
-use Rattle.units.specs.Limits.{bundleOk}
 use Rattle.legacy.specs.Record.{recordOk}
 use Rattle.legacy.specs.DryRun.{classOf, queueAt, budgetAt, startAt, answerAt, dryRunOf}
 use Rattle.legacy.proofs.Facts.{sound}
@@ -86,3 +86,14 @@ module _ (r : Queue) (t : ℕ) (b : Bundle) (queue budget : Volume)
 pub dry-run-is : (r : Queue) (at : Date) (b : Bundle) → recordOk r ≡ true → bundleOk at b ≡ true → dryRunOf r at b ≡ answerAt r (at .0) b
 unfolding dryRunOf
 dry-run-is r at b h k = unless-go _ _ _ h ∙ unless-go _ _ _ k
+
+-- a dry run that is no offer has zero dates
+pub dry-run-refused : (r : Queue) (at : Date) (b : Bundle) → (dryRunOf r at b .number ≡ 0 → ⊥) → dryRunOf r at b ≡ refused (dryRunOf r at b .number)
+unfolding dryRunOf answerAt
+dry-run-refused r at b =
+    let P : Offer → Type 0 = λ (o : Offer). (o .number ≡ 0 → ⊥) → o ≡ refused (o .number) in
+    let queue = queueAt r (b .priority .0) in
+    unless-keeps P (recordOk r) _ _ (λ _ _. refl)
+    (λ _. unless-keeps P (bundleOk at b) _ _ (λ _ _. refl)
+    (λ _. unless-keeps P (leb (queue + b .size .0) (budgetAt r (b .priority .0))) _ _ (λ _ _. refl)
+    (λ _. unless-keeps P (leb (startAt r (at .0) queue + b .size .0 / r .rate .0) (r .window .end .0)) _ _ (λ _ _. refl) (λ _ f. absurd (f refl)))))

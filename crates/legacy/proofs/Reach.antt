@@ -6,7 +6,7 @@ use mathlib.Core.List.{List, [], _∷_}
 use native.Mathlib.Numerals.{add-one}
 use native.Mathlib.Omega.{arith}
 use lib.ListN.{length, take, getD, replicate}
-use borrow.Author.Tests.{leb-true, le-leb, eqb-true}
+use borrow.Author.Tests.{le-leb, eqb-true}
 use Rattle.units.specs.declared.Date.{Date}
 use Rattle.units.specs.declared.Volume.{Volume}
 use Rattle.units.specs.declared.Rate.{Rate}
@@ -24,7 +24,7 @@ use Rattle.legacy.specs.declared.Queue.{Queue}
 use Rattle.legacy.specs.declared.Booked.{Booked}
 use Rattle.legacy.specs.Open.{rateOk, budgetsOk, openOf}
 use Rattle.legacy.specs.Record.{recordOk}
-use Rattle.legacy.specs.DryRun.{classOf, queueAt, budgetAt, answerAt, dryRunOf}
+use Rattle.legacy.specs.DryRun.{classOf, queueAt, answerAt, dryRunOf}
 use Rattle.legacy.specs.Queueing.{addTo, refusedQueueing, withQueues, reached, roomFor, enqueueAt, enqueueOf, dequeueOf}
 use Rattle.legacy.specs.Book.{bookOf}
 use Rattle.legacy.proofs.First.{more, add-is, take-is, first-length}
@@ -143,12 +143,24 @@ stepped _ (booked r at b d q) = book-steps r b (stepped r q) at d
 stepped _ (enqueued r b q) = enqueue-steps r b (stepped r q)
 stepped _ (dequeued r b q) = dequeue-steps r b (stepped r q)
 
+-- so queue c is at most (8 - c) times 2^38, the first at most 2^41
+steps-low : (l : List Volume) (c : ℕ) → Steps l → getD l c (record { 0 = 0 }) .0 ≤ (length l - c) * 2 ^ 38
+unfolding Steps
+steps-low [] c s = omega arith
+steps-low (q ∷ l) zero s = omega (arith, s .0, steps-low l 0 (s .1))
+steps-low (q ∷ l) (suc c) s = omega (arith, steps-low l c (s .1))
+
+pub queue-low : (r : Queue) → Reached r → r .flags .«self_update» ≡ true → (c : ℕ) → getD (r .queues) c (record { 0 = 0 }) .0 ≤ (8 - c) * 2 ^ 38
+queue-low r q auto c =
+    let s = stepped r q in
+    rw (s .size) at (steps-low (r .queues) c (s .steps auto))
+
 pub never-13 : (r : Queue) → Reached r → (at : Date) (b : Bundle) (d : TxData) → bookOf r at b d .number ≡ 13 → ⊥
 never-13 r q at b d =
     book-keeps r b (λ (a : Booked). a .number ≡ 13 → ⊥) at d (λ n h k e. omega arith)
     (λ o auto e. omega (arith, put-done r b (stepped r q) at d o auto)) (λ e. omega arith)
 
--- a valid record that no calls lead to: its first queue is full, and a booking of class 1 answers 13
+-- a valid record: its first queue is full, and a booking of class 1 answers 13
 abbrev full : Queue
 full =
     record {
@@ -171,3 +183,7 @@ full-ok = refl
 pub full-13 : bookOf full (record { 0 = 0 }) load (dryRunOf full (record { 0 = 0 }) load .dates) ≡ refusedQueueing 13 full
 unfolding bookOf enqueueAt offers sameDates dryRunOf answerAt recordOk bundleOk loadOk openOf windowOk rateOk budgetsOk both allOf
 full-13 = refl
+
+-- so no calls lead to it
+pub full-out : Reached full → ⊥
+full-out q = never-13 full q _ _ _ (ap (λ (a : Booked). a .number) full-13)

@@ -1,7 +1,7 @@
 -- The tests of the opening and of the record, one by one.
 use Prim.Native.Nat.{ℕ, _≤_, _^_}
 use mathlib.Core.Bool.{Bool, true, false}
-use mathlib.Core.Path.{_≡_, refl, sym, ap, _∙_}
+use mathlib.Core.Path.{_≡_, refl, ap, _∙_}
 use mathlib.Core.List.{List}
 use lib.Dec.{leb, eqb}
 use lib.ListN.{take, drop}
@@ -10,7 +10,7 @@ use Rattle.units.specs.declared.Volume.{Volume}
 use Rattle.units.specs.declared.Rate.{Rate}
 use Rattle.units.specs.declared.Delay.{Delay}
 use Rattle.units.specs.declared.Interval.{Interval}
-use Rattle.units.specs.Logic.{both, unless, pick, allOf}
+use Rattle.units.specs.Logic.{both, pick, allOf}
 use Rattle.units.specs.Limits.{delayMax, windowOk}
 use Rattle.units.proofs.Logic.{both-go, both-stop}
 use Rattle.units.proofs.Choice.{both-assoc, done-unless}

@@ -19,6 +19,7 @@ ghost use Rattle.legacy.specs.Queueing.{refusedQueueing, enqueueAt, dequ
 ghost use Rattle.legacy.specs.Book.{bookOf};
 ghost use Rattle.legacy.specs.List.{listOf};
 
+pub mod lent;
 pub mod volumes;
 
 pub struct Flags {

@@ -1,6 +1,6 @@
 -- `legacy::Queue::budget` meets its contract: the budget at the class, or what the window carries.
 use borrow.Author.Needs.{needs}
-use mathlib.Core.Path.{sym, _∙_}
+use mathlib.Core.Path.{sym}
 use native.Mathlib.Omega.{arith}
 use Rattle.units.proofs.Choice.{pick-yes, pick-no}
 use Rattle.legacy.proofs.Facts.{sound}

@@ -1,10 +1,9 @@
 -- `legacy::Queue::budgets_ok` meets its contract: the class count, then the places that hold a budget and those that do not.
-use borrow.Author.Needs.{needs}
 use borrow.Author.Tests.{lt-leb, le-leb}
 use Prim.Native.Nat.{_≤_}
 use mathlib.Core.Path.{_≡_, sym, _∙_}
-use native.Mathlib.Omega.{arith}
 use mathlib.Core.Logic.{⊎-elim}
+use native.Mathlib.Omega.{arith}
 use Rattle.units.specs.Logic.{pick}
 use Rattle.units.proofs.Logic.{both-go, both-stop}
 use Rattle.units.proofs.Choice.{pick-yes, pick-no, told-yes, told-no}

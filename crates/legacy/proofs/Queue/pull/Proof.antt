@@ -23,7 +23,6 @@ refused-queueing-requires c κs = search needs
 returns : tie.Need-returns
 returns c =
     let known = c .before .before .before .before in
-    let start = known .before .before .before in
     c .refused-queueing .ensures ∙ sym (pull-stop _ _ _ (known .class .ensures) (told-no (c .before .before .hold .ensures) (c .before .if1 .taken)))
 
 add-take : tie.Need-add-take
@@ -38,7 +37,6 @@ take-requires c κs =
 returns-2 : tie.Need-returns-2
 returns-2 c =
     let known = c .before .before .before .before in
-    let start = known .before .before .before in
     sym (pull-go _ _ _ (known .class .ensures) (told-yes (c .before .before .hold .ensures) (c .before .if1 .left)) _ (c .take .ensures))
 
 pub pull-spec : {M : Type 1} → statement M

@@ -1,5 +1,4 @@
 -- `legacy::Queue::rate_ok` meets its contract: each test that fails answers no.
-use borrow.Author.Needs.{needs}
 use borrow.Author.Tests.{le-leb, lt-leb}
 use mathlib.Core.Path.{sym, _∙_}
 use native.Mathlib.Omega.{arith}

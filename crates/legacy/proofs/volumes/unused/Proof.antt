@@ -1,12 +1,11 @@
 -- `legacy::volumes::unused` meets its contract: the places left have the answer of all.
 use borrow.Author.Tests.{eq-eqb, ne-eqb}
-use Prim.Native.Nat.{_-_, _≤_}
-use mathlib.Core.Path.{_≡_, sym, _∙_}
+use borrow.Author.Needs.{needs}
+use Prim.Native.Nat.{_-_}
+use mathlib.Core.Path.{_≡_, sym}
 use lib.ListN.{length}
-use native.Mathlib.Omega.{arith}
 use Rattle.units.proofs.Unused.{Rest, rest-first, rest-end, rest-stop, rest-step}
 use Rattle.legacy.specs.Open.{isZero}
-use borrow.Author.Needs.{needs}
 use Rattle.legacy.proofs.volumes.unused.Statement.{statement}
 use Rattle.legacy.proofs.volumes.unused.Tie as tie
 

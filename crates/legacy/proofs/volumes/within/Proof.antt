@@ -1,12 +1,12 @@
 -- `legacy::volumes::within` meets its contract: the places left have the answer of all.
 use borrow.Author.Tests.{le-leb, lt-leb}
+use borrow.Author.Needs.{needs}
 use Prim.Native.Nat.{_-_, _≤_}
-use mathlib.Core.Path.{_≡_, sym, _∙_}
-use lib.ListN.{length}
+use mathlib.Core.Path.{_≡_, sym}
 use native.Mathlib.Omega.{arith}
+use lib.ListN.{length}
 use Rattle.units.proofs.Each.{Each, each-first, each-end, each-stop, each-step}
 use Rattle.legacy.specs.Open.{atMost}
-use borrow.Author.Needs.{needs}
 use Rattle.legacy.proofs.volumes.within.Statement.{statement}
 use Rattle.legacy.proofs.volumes.within.Tie as tie
 
