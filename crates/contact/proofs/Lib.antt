@@ -8,3 +8,4 @@ pub mod Sound
 pub mod Fresh
 pub mod Unique
 pub mod Lookup
+pub mod Offers

@@ -1,18 +1,19 @@
 -- Each call, refusal by refusal: what its definition answers where a test is known.
 use Prim.Native.Nat.{ℕ}
 use mathlib.Core.Bool.{Bool, true, false}
-use mathlib.Core.Path.{_≡_, refl, sym, ap, _∙_}
+use mathlib.Core.Path.{_≡_, sym, ap, _∙_}
+use native.Mathlib.Omega.{arith}
 use Rattle.units.specs.declared.Date.{Date}
 use Rattle.units.specs.declared.Interval.{Interval}
 use Rattle.units.specs.declared.TxData.{TxData}
 use Rattle.units.specs.declared.Bundle.{Bundle}
 use Rattle.units.specs.declared.Offer.{Offer}
-use Rattle.units.specs.Logic.{both}
 use Rattle.units.specs.Limits.{bundleOk}
 use Rattle.units.specs.Answer.{refused, offers}
-use Rattle.units.proofs.Logic.{unless-go, unless-stop, both-stop}
+use Rattle.units.proofs.Logic.{unless-go, unless-stop}
 use Rattle.segmentation.specs.Delay.{answerWith}
 use Rattle.contact.specs.Record.{delayList}
+use Rattle.contact.proofs.Offers.{refused-offers}
 use Rattle.free_list.specs.declared.Found.{Found}
 use Rattle.free_list.specs.declared.Found.the-variants.{At, None}
 use Rattle.seg.specs.declared.FreeVolume.{FreeVolume}
@@ -20,11 +21,6 @@ use Rattle.seg.specs.declared.Booked.{Booked}
 use Rattle.seg.specs.Record.{recordOk}
 use Rattle.seg.specs.DryRun.{dryRunOf, foundOf, answerTo}
 use Rattle.seg.specs.Book.{bookOf, bookedOf, bookedAt, refusedBooking}
-
--- no refusal is an offer
-pub no-offer : (d : TxData) → offers (refused 7) d ≡ false
-unfolding offers
-no-offer d = both-stop _ _ refl
 
 module _ (r : FreeVolume) (at : Date) (b : Bundle) where
   pub dry-record : recordOk r ≡ false → dryRunOf r at b ≡ refused 1
@@ -60,7 +56,7 @@ module _ (r : FreeVolume) (at : Date) (b : Bundle) where
       book-other d e = unless-go _ _ _ ok ∙ unless-go _ _ _ fits ∙ unless-stop _ _ _ e
 
       pub book-none : (d : TxData) → foundOf r (at .0) (b .size .0) ≡ None → bookOf r at b d ≡ refusedBooking 9 r
-      book-none d e = book-other d (ap (λ (o : Offer). offers o d) (dry-none e) ∙ no-offer d)
+      book-none d e = book-other d (ap (λ (o : Offer). offers o d) (dry-none e) ∙ refused-offers 7 d (λ z. omega arith))
 
       pub book-at : (d : TxData) (i : ℕ) (send : Interval) → foundOf r (at .0) (b .size .0) ≡ At i send → offers (dryRunOf r at b) d ≡ true
           → bookOf r at b d ≡ bookedOf r i send (b .size .0)

@@ -13,17 +13,13 @@ use Rattle.units.specs.declared.Interval.{Interval}
 use Rattle.units.specs.declared.TxData.{TxData}
 use Rattle.units.specs.declared.Bundle.{Bundle}
 use Rattle.units.specs.declared.Offer.{Offer}
-use Rattle.units.specs.Logic.{both, unless}
+use Rattle.units.specs.Logic.{unless}
 use Rattle.units.specs.Limits.{bundleOk}
-use Rattle.units.specs.Answer.{offers, sameDates}
-use Rattle.units.proofs.Logic.{no-both, both-fst, both-snd}
+use Rattle.units.specs.Answer.{offers}
 use Rattle.units.proofs.Loads.{asked-load, load}
 use Rattle.segmentation.specs.declared.RateSegment.{RateSegment}
 use Rattle.segmentation.specs.declared.DelaySegment.{DelaySegment}
-use Rattle.segmentation.specs.declared.Delays.{Delays}
-use Rattle.segmentation.specs.declared.Delays.the-variants.{Of, None as no-delay}
 use Rattle.segmentation.specs.Capacity.{capacity, topOf}
-use Rattle.segmentation.specs.Delay.{delaysOf, answerOf}
 use Rattle.segmentation.proofs.Capacity.{total-is}
 use Rattle.contact.specs.declared.Opened.{Opened as ContactOpened}
 use Rattle.contact.specs.Record.{contactOk, ratesOf, delayList}
@@ -31,6 +27,7 @@ use Rattle.contact.specs.Open.{totalOf, contactOf, openContact}
 use Rattle.contact.proofs.Sound.{Sound, sound}
 use Rattle.contact.proofs.Fresh.{opened-ok, opened-total}
 use Rattle.contact.proofs.Refusals.{opened-is}
+use Rattle.contact.proofs.Offers.{offers-send}
 use Rattle.free_list.specs.declared.Found.{Found}
 use Rattle.free_list.specs.declared.Found.the-variants.{At, None}
 use Rattle.free_list.specs.Cut.{listed, listIn, cutOf, cutList, wholeWindow}
@@ -103,13 +100,6 @@ pub record Accepted (r : FreeVolume) (at : Date) (b : Bundle) (d : TxData) (a : 
 refuse : (n : ℕ) (r : FreeVolume) (a : Booked) → (n ≡ 0 → ⊥) → a ≡ refusedBooking n r → Refused r a
 refuse n r a h e = record { number = λ z. h (sym (ap (λ (x : Booked). x .number) e) ∙ z); same = ap (λ (x : Booked). x .manager) e }
 
--- the dates of an offer are those of the send interval
-offer-send : (s e : ℕ) (x : Delays) (d : TxData) → offers (answerOf s e x) d ≡ true → (s ≡ d .send .start .0) × (e ≡ d .send .end .0)
-unfolding offers sameDates
-offer-send s e (Of a b) d h =
-    let dates = both-snd _ _ h in (eqb-true _ _ (both-fst _ _ dates), eqb-true _ _ (both-fst _ _ (both-snd _ _ dates)))
-offer-send s e no-delay d h = absurd (no-both (both-fst _ _ h) refl)
-
 module _ (r : FreeVolume) (at : Date) (b : Bundle) (d : TxData) (ok : recordOk r ≡ true) where
   abbrev booked : Booked
   booked = bookOf r at b d
@@ -119,8 +109,7 @@ module _ (r : FreeVolume) (at : Date) (b : Bundle) (d : TxData) (ok : recordOk r
     at-place o =
         let v = b .size .0 in
         let l = ratesOf (r .contact) in
-        let dates = offer-send _ _ (delaysOf (delayList (r .contact)) (send .start .0) (send .end .0)) d (rw (dry-at r at b ok fits i send h) at o) in
-        let same : send ≡ d .send = ap (λ (x : ℕ). record { start = record { 0 = x }; end = send .end }) (dates .0) ∙ ap (λ (x : ℕ). record { start = d .send .start; end = record { 0 = x } }) (dates .1) in
+        let same : send ≡ d .send = offers-send (delayList (r .contact)) send d (rw (dry-at r at b ok fits i send h) at o) in
         let f : foundOf r (at .0) v ≡ At i (d .send) = h ∙ ap (λ (x : Interval). At i x) same in
         let is : booked ≡ bookedOf r i (d .send) v = book-at r at b ok fits d i (d .send) f o in
         ⊎-elim

@@ -1,0 +1,5 @@
+pub mod Facts
+pub mod Calls
+pub mod Kept
+pub mod Unique
+pub mod Cases

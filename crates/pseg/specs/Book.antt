@@ -1,0 +1,40 @@
+-- 01, "Refusal numbers", Booking: 1, 2, 9, then 10; a refusal hands the record back as it came.
+use Prim.Native.Nat.{ℕ, _+_}
+use Rattle.units.specs.declared.Date.{Date}
+use Rattle.units.specs.declared.Interval.{Interval}
+use Rattle.units.specs.declared.TxData.{TxData}
+use Rattle.units.specs.declared.Bundle.{Bundle}
+use Rattle.units.specs.Logic.{unless}
+use Rattle.units.specs.Limits.{bundleOk}
+use Rattle.units.specs.Answer.{offers}
+use Rattle.bookings.specs.declared.Run.{Run}
+use Rattle.bookings.specs.declared.Run.the-variants.{Idle, Going, Sent}
+use Rattle.bookings.specs.declared.Set.{Set}
+use Rattle.bookings.specs.Cut.{setBookings}
+use Rattle.pseg.specs.declared.PrioritySeg.{PrioritySeg}
+use Rattle.pseg.specs.declared.Booked.{Booked}
+use Rattle.pseg.specs.Record.{recordOk}
+use Rattle.pseg.specs.DryRun.{dryRunOf, runOf}
+
+abbrev pub refusedBooking : ℕ → PrioritySeg → Booked
+refusedBooking n r = record { number = n; manager = r }
+
+-- the record with the send interval set to a level, or 10 and the record as it came
+abbrev pub bookedOf : PrioritySeg → Interval → ℕ → Booked
+bookedOf r send w =
+    let done : Set = setBookings (r .bookings) (send .start .0) (send .end .0) w in
+    record { number = done .number; manager = record { contact = r .contact; bookings = done .bookings } }
+
+-- the send interval that the dry run found is set to the priority, whose level is one above it
+abbrev pub bookedAt : PrioritySeg → Run → ℕ → Booked
+bookedAt r (Sent send) p = bookedOf r send (p + 1)
+bookedAt r (Going send) p = refusedBooking 9 r
+bookedAt r Idle p = refusedBooking 9 r
+
+-- the booking
+unfoldable pub bookOf : PrioritySeg → Date → Bundle → TxData → Booked
+bookOf r at b d =
+    unless (recordOk r) (refusedBooking 1 r)
+    (unless (bundleOk at b) (refusedBooking 2 r)
+    (unless (offers (dryRunOf r at b) d) (refusedBooking 9 r)
+    (bookedAt r (runOf r (at .0) b) (b .priority .0))))

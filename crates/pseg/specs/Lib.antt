@@ -1,0 +1,5 @@
+pub mod Record
+pub mod Open
+pub mod DryRun
+pub mod Book
+pub mod List
