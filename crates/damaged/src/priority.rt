@@ -1,0 +1,124 @@
+// The priority manager: contact [0,10), rate 10, delay 3. Its contact part is tested as the free-volume manager's.
+use crate::out;
+use bookings::BookingSegment;
+use bookings::Bookings;
+use bookings::Level;
+use pseg::PrioritySeg;
+use segmentation::DelaySegment;
+use segmentation::RateSegment;
+use units::Bundle;
+use units::Date;
+use units::Delay;
+use units::Interval;
+use units::Priority;
+use units::Rate;
+use units::TxData;
+use units::Volume;
+
+// At 3, size 15, priority 5: the offer is send 3,4, receive 6,7.
+fn report(label: u8, r: PrioritySeg) {
+    let at = Date(3);
+    let bundle = Bundle {
+        size: Volume(15),
+        priority: Priority(5),
+    };
+    let dates = TxData {
+        send: Interval {
+            start: Date(3),
+            end: Date(4),
+        },
+        recv: Interval {
+            start: Date(6),
+            end: Date(7),
+        },
+    };
+    let good = r.ok();
+    let o = r.dry_run(at, bundle);
+    let b = r.book(at, bundle, dates);
+    let l = r.list();
+    out::line(112, label, good, o.number, b.number, l.number);
+}
+
+fn fresh() -> PrioritySeg {
+    let none = RateSegment {
+        start: Date(0),
+        end: Date(0),
+        rate: Rate(0),
+    };
+    let mut rates = [none; RateSegment::COUNT_MAX];
+    rates[0] = RateSegment {
+        start: Date(0),
+        end: Date(10),
+        rate: Rate(10),
+    };
+    let nil = DelaySegment {
+        start: Date(0),
+        end: Date(0),
+        delay: Delay(0),
+    };
+    let mut delays = [nil; DelaySegment::COUNT_MAX];
+    delays[0] = DelaySegment {
+        start: Date(0),
+        end: Date(10),
+        delay: Delay(3),
+    };
+    let window = Interval {
+        start: Date(0),
+        end: Date(10),
+    };
+    let o = PrioritySeg::open(window, rates, 1, delays, 1);
+    o.manager
+}
+
+fn segment(a: u64, b: u64, w: u8) -> BookingSegment {
+    BookingSegment {
+        start: Date(a),
+        end: Date(b),
+        level: Level(w),
+    }
+}
+
+// The record with another list of two places and a count.
+fn listing(r: PrioritySeg, g: BookingSegment, h: BookingSegment, count: usize) -> PrioritySeg {
+    let contact = r.contact;
+    let none = pseg::nothing();
+    let mut segments = none.segments;
+    segments[0] = g;
+    segments[1] = h;
+    PrioritySeg {
+        contact: contact,
+        bookings: Bookings {
+            segments: segments,
+            count: count,
+        },
+    }
+}
+
+pub fn run() {
+    let r = fresh();
+    let whole = segment(0, 10, 0);
+    let zero = segment(0, 0, 0);
+    // valid: as opened; two segments; an empty one; the highest level; booked at the priority itself
+    report(97, r);
+    report(98, listing(r, segment(0, 5, 0), segment(5, 10, 3), 2));
+    report(99, listing(r, segment(0, 0, 6), segment(0, 10, 0), 2));
+    report(100, listing(r, segment(0, 10, 128), zero, 1));
+    report(101, listing(r, segment(0, 10, 6), zero, 1));
+    report(102, listing(r, segment(0, 10, 5), zero, 1));
+    // no segment, too many, a count beyond the places, a second one that is unused
+    report(65, listing(r, whole, zero, 0));
+    report(66, listing(r, whole, zero, 65));
+    report(67, listing(r, whole, zero, 18_446_744_073_709_551_615));
+    report(68, listing(r, whole, zero, 2));
+    // a gap, an overlap, backward, short of the window, past it, a level above 128
+    report(69, listing(r, segment(0, 5, 0), segment(6, 10, 0), 2));
+    report(70, listing(r, segment(0, 5, 0), segment(4, 10, 0), 2));
+    report(71, listing(r, segment(0, 12, 0), segment(12, 10, 0), 2));
+    report(72, listing(r, segment(0, 9, 0), zero, 1));
+    report(73, listing(r, segment(0, 11, 0), zero, 1));
+    report(74, listing(r, segment(0, 10, 129), zero, 1));
+    // something in an unused place: a start, an end, a level
+    report(75, listing(r, whole, segment(1, 0, 0), 1));
+    report(76, listing(r, whole, segment(0, 1, 0), 1));
+    report(77, listing(r, whole, segment(0, 0, 1), 1));
+}

@@ -1,0 +1,102 @@
+// The queue manager: [0,10), rate 10, delay 2, 3 classes, unbudgeted, both flags.
+use crate::out;
+use legacy::Flags;
+use legacy::Queue;
+use units::Bundle;
+use units::Date;
+use units::Delay;
+use units::Interval;
+use units::Priority;
+use units::Rate;
+use units::TxData;
+use units::Volume;
+
+// At 0, size 25, priority 1: the offer is send 0,2, receive 2,4.
+fn report(label: u8, r: Queue) {
+    let at = Date(0);
+    let bundle = Bundle {
+        size: Volume(25),
+        priority: Priority(1),
+    };
+    let dates = TxData {
+        send: Interval {
+            start: Date(0),
+            end: Date(2),
+        },
+        recv: Interval {
+            start: Date(2),
+            end: Date(4),
+        },
+    };
+    let good = r.ok();
+    let o = r.dry_run(at, bundle);
+    let b = r.book(at, bundle, dates);
+    let l = r.list();
+    out::line(113, label, good, o.number, b.number, l.number);
+    let e = r.enqueue(bundle);
+    let d = r.dequeue(bundle);
+    out::line(109, label, good, e.number, d.number, l.number);
+}
+
+fn queue(
+    end: u64,
+    rate: u64,
+    delay: u64,
+    classes: usize,
+    flags: Flags,
+    first: u64,
+    fourth: u64,
+    budget: u64,
+) -> Queue {
+    let mut queues = [Volume(0); Queue::CLASSES_MAX];
+    queues[0] = Volume(first);
+    queues[3] = Volume(fourth);
+    let mut budgets = [Volume(0); Queue::CLASSES_MAX];
+    budgets[0] = Volume(budget);
+    Queue {
+        window: Interval {
+            start: Date(0),
+            end: Date(end),
+        },
+        rate: Rate(rate),
+        delay: Delay(delay),
+        classes: classes,
+        flags: flags,
+        queues: queues,
+        budgets: budgets,
+    }
+}
+
+fn flags(self_update: bool, budgeted: bool) -> Flags {
+    Flags {
+        add_delay: true,
+        self_update: self_update,
+        budgeted: budgeted,
+    }
+}
+
+pub fn run() {
+    let f = flags(true, false);
+    let by_hand = flags(false, false);
+    let budgeted = flags(true, true);
+    // valid: fresh; queued by hand; a queue of 2^41; a budget of 2^38; eight classes
+    report(97, queue(10, 10, 2, 3, f, 0, 0, 0));
+    report(98, queue(10, 10, 2, 3, by_hand, 25, 0, 0));
+    report(99, queue(10, 10, 2, 3, by_hand, 2_199_023_255_552, 0, 0));
+    report(100, queue(10, 10, 2, 3, budgeted, 0, 0, 274_877_906_944));
+    report(101, queue(10, 10, 2, 8, f, 0, 1, 0));
+    // the window, the rate, the total, the delay
+    report(65, queue(0, 10, 2, 3, f, 0, 0, 0));
+    report(66, queue(16_777_217, 10, 2, 3, f, 0, 0, 0));
+    report(67, queue(10, 0, 2, 3, f, 0, 0, 0));
+    report(68, queue(10, 274_877_906_945, 2, 3, f, 0, 0, 0));
+    report(69, queue(10, 27_487_790_695, 2, 3, f, 0, 0, 0));
+    report(70, queue(10, 10, 1_099_511_627_777, 3, f, 0, 0, 0));
+    // class counts, a queue above 2^41, a queue past the classes, budgets
+    report(71, queue(10, 10, 2, 0, f, 0, 0, 0));
+    report(72, queue(10, 10, 2, 9, f, 0, 0, 0));
+    report(73, queue(10, 10, 2, 3, f, 2_199_023_255_553, 0, 0));
+    report(74, queue(10, 10, 2, 3, f, 0, 1, 0));
+    report(75, queue(10, 10, 2, 3, f, 0, 0, 1));
+    report(76, queue(10, 10, 2, 3, budgeted, 0, 0, 274_877_906_945));
+}

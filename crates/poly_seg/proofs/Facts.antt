@@ -1,0 +1,164 @@
+-- What a record that passes its test is, and what an offer made on it is.
+use Prim.Native.Nat.{ℕ, zero, suc, _<_, _≤_, _^_}
+use mathlib.Core.Bool.{true, false}
+use mathlib.Core.Path.{_≡_, _∙_}
+use mathlib.Core.List.{List, [], _∷_}
+use native.Mathlib.Omega.{arith}
+use lib.ListN.{length, drop, getD, length-take}
+use lib.Seq.{getD-take}
+use borrow.Author.Tests.{le-leb, eqb-true}
+use Rattle.units.specs.declared.Interval.{Interval}
+use Rattle.units.specs.Logic.{both, allOf}
+use Rattle.units.specs.Limits.{windowOk}
+use Rattle.units.proofs.Logic.{both-go, both-stop, both-fst, both-snd, both-yes}
+use Rattle.units.proofs.Counted.{counted, counted-some, counted-most, counted-holds}
+use Rattle.units.proofs.Windows.{Window, window}
+use Rattle.segmentation.specs.declared.VolumeSegment.{VolumeSegment}
+use Rattle.segmentation.specs.Granted.{AllShort}
+use Rattle.contact.specs.Segments.{zeroVolume, noVolume, noDelay}
+use Rattle.free_list.specs.declared.Found.the-variants.{At}
+use Rattle.free_list.specs.Listed.{listOk}
+use Rattle.free_list.specs.Cut.{listed}
+use Rattle.free_list.proofs.ListedLaws.{Listed, listed-true}
+use Rattle.free_list.proofs.Offered.{AtPlace, place-get, listed-at, Here, Offered}
+use Rattle.free_list.proofs.CutLaws.{offered-inside}
+use Rattle.free_list.proofs.CutList.{Kept}
+use Rattle.poly.specs.Poly.{polyOk}
+use Rattle.poly.specs.Granted.{Ranged}
+use Rattle.poly.proofs.Range.{ranged}
+use Rattle.poly.proofs.EndLaws.{find-end-inside}
+use Rattle.poly_seg.specs.declared.PolySeg.{PolySeg}
+use Rattle.poly_seg.specs.Open.{delaysOk}
+use Rattle.poly_seg.specs.Record.{delayList, recordOk}
+use Rattle.poly_seg.specs.DryRun.{foundOf}
+use Rattle.poly_seg.proofs.Lookup.{delays-most, delays-short}
+use Rattle.poly_seg.proofs.NoRates.{bare-here}
+use Rattle.poly_seg.proofs.Picked.{Picked, offer-picked}
+use Rattle.poly_seg.proofs.Calls.{Passed, open-window, open-delays, open-polynome, open-passed, open-yes, open-not}
+
+-- The record's test, test by test.
+module _ (r : PolySeg) where
+  abbrev pub Opens : Type 0
+  Opens = Passed (r .window) (r .polynome) (r .delays) (r .«delay_count»)
+
+  pub record-window : windowOk (r .window) ≡ false → recordOk r ≡ false
+  unfolding recordOk
+  record-window e = both-stop _ _ (open-not _ _ _ _ 3 (open-window _ _ _ _ e) (λ z. omega arith))
+
+  module _ (h1 : windowOk (r .window) ≡ true) where
+    pub record-delays : delaysOk (r .«delay_count») (r .delays) ≡ false → recordOk r ≡ false
+    unfolding recordOk
+    record-delays e = both-stop _ _ (open-not _ _ _ _ 5 (open-delays _ _ _ _ h1 e) (λ z. omega arith))
+
+    pub record-polynome : delaysOk (r .«delay_count») (r .delays) ≡ true → polyOk (r .polynome) (r .window) ≡ false → recordOk r ≡ false
+    unfolding recordOk
+    record-polynome h2 e = both-stop _ _ (open-not _ _ _ _ 11 (open-polynome _ _ _ _ h1 h2 e) (λ z. omega arith))
+
+  module _ (h : Opens) where
+    pub record-delayed : allOf noDelay (drop (r .«delay_count») (r .delays)) ≡ false → recordOk r ≡ false
+    unfolding recordOk
+    record-delayed e = both-go _ _ (open-yes _ _ _ _ h) ∙ both-stop _ _ e
+
+    pub record-listed : allOf noDelay (drop (r .«delay_count») (r .delays)) ≡ true
+        → recordOk r ≡ counted 64 (r .free .count)
+        (both (listOk [] (r .window .start .0) (r .window .end .0) (listed (r .free))) (allOf noVolume (drop (r .free .count) (r .free .segments))))
+    unfolding recordOk
+    record-listed e = both-go _ _ (open-yes _ _ _ _ h) ∙ both-go _ _ e
+
+pub record Facts (r : PolySeg) : Type 0 where
+  pub test : Opens r
+  pub window : Window (r .window)
+  pub range : Ranged (r .polynome) (r .window)
+  pub places : r .«delay_count» ≤ 16
+  pub short : AllShort (delayList r)
+  pub undelayed : allOf noDelay (drop (r .«delay_count») (r .delays)) ≡ true
+  pub some : 1 ≤ r .free .count
+  pub few : r .free .count ≤ 64
+  pub rules : listOk [] (r .window .start .0) (r .window .end .0) (listed (r .free)) ≡ true
+  pub free : Listed [] (r .window .start .0) (r .window .end .0) (listed (r .free))
+  pub unused : allOf noVolume (drop (r .free .count) (r .free .segments)) ≡ true
+
+pub facts : (r : PolySeg) → recordOk r ≡ true → Facts r
+unfolding recordOk
+facts r e =
+    let test = open-passed _ _ _ _ (eqb-true _ _ (both-fst _ _ e)) in
+    let rest = both-snd _ _ e in
+    let list = both-snd _ _ rest in
+    let holds = counted-holds 64 (r .free .count) _ list in
+    record {
+      test = test;
+      window = window _ (test .window);
+      range = ranged _ _ (test .window) (test .polynome);
+      places = delays-most _ _ (test .delay);
+      short = delays-short _ _ (test .delay);
+      undelayed = both-fst _ _ rest;
+      some = counted-some 64 (r .free .count) _ list;
+      few = counted-most 64 (r .free .count) _ list;
+      rules = both-fst _ _ holds;
+      free = listed-true _ _ _ _ (both-fst _ _ holds);
+      unused = both-snd _ _ holds;
+    }
+
+-- figures that an opening takes, with nothing in an unused place, and a free list that keeps its rules are a record that does
+pub record-kept : (r : PolySeg) → Opens r → allOf noDelay (drop (r .«delay_count») (r .delays)) ≡ true
+    → Kept [] (r .window .start .0) (r .window .end .0) (r .free) → recordOk r ≡ true
+unfolding recordOk
+record-kept r h u k =
+    both-yes _ _ (open-yes _ _ _ _ h)
+    (both-yes _ _ u
+    (both-yes _ _ (le-leb _ _ (k .some)) (both-yes _ _ (le-leb _ _ (k .few)) (both-yes _ _ (k .rules) (k .unused)))))
+
+-- each listed segment is in the window
+listed-inside : (l : List VolumeSegment) (n hi : ℕ) (f : List VolumeSegment) (i : ℕ) (z : VolumeSegment) → i < length f → Listed l n hi f
+    → (n ≤ getD f i z .start .0) × (getD f i z .end .0 ≤ hi)
+unfolding Listed
+listed-inside l n hi [] i z h q = absurd (omega arith)
+listed-inside l n hi (g ∷ f) zero z h q = (q .0, q .2)
+listed-inside l n hi (g ∷ f) (suc i) z h q =
+    let k = listed-inside l (suc (g .end .0)) hi f i z (omega arith) (q .4) in (omega (arith, q .0, q .1, k .0), k .1)
+
+pub free-inside : (r : PolySeg) → Facts r → r .free .count ≤ length (r .free .segments) → (i : ℕ) → i < r .free .count
+    → (r .window .start .0 ≤ getD (r .free .segments) i zeroVolume .start .0) × (getD (r .free .segments) i zeroVolume .end .0 ≤ r .window .end .0)
+free-inside r q room i lt =
+    let len : i < length (listed (r .free)) = simp length-take (omega arith) in
+    rw (getD-take (r .free .count) (r .free .segments) i zeroVolume lt) at (listed-inside _ _ _ _ i zeroVolume len (q .free))
+
+-- the segment holds the send, which is not before the asked time and not of zero length
+record Sent (t : ℕ) (send : Interval) (g : VolumeSegment) : Type 0 where
+  from : g .start .0 ≤ send .start .0
+  late : t ≤ send .start .0
+  after : send .start .0 < send .end .0
+  by : send .end .0 ≤ g .end .0
+
+module _ (r : PolySeg) (q : Facts r) (t v : ℕ) (pos : 1 ≤ v) (i : ℕ) (send : Interval) (h : foundOf r t v ≡ At i send) where
+  found-at : AtPlace (Sent t send) (listed (r .free)) i
+  found-at =
+      listed-at (Picked (r .polynome) t v send) (Sent t send) [] _ _ (listed (r .free)) i
+      (λ g a b k.
+      let e = find-end-inside (r .polynome) (g .start .0) (g .end .0) (send .start .0) v (send .end) pos (k .ends) in
+      record { from = e .from; late = omega (arith, k .start); after = e .after; by = e .by })
+      (q .free) (offer-picked (r .polynome) t v send (listed (r .free)) i h)
+
+  -- the offer stands at a listed segment, as one of size 0 where there are no rates
+  pub found-offered : Offered [] 0 (listed (r .free)) i (send .start .0) (send .end .0) 0
+  found-offered =
+      listed-at (Sent t send) (λ g. Here [] 0 g (send .start .0) (send .end .0) 0) [] _ _ (listed (r .free)) i
+      (λ g a b k. bare-here g _ _ (k .from) (omega (arith, k .after)) (k .by))
+      (q .free) found-at
+
+  -- no send is of zero length
+  pub found-after : send .start .0 < send .end .0
+  found-after = place-get (Sent t send) (listed (r .free)) i found-at .after
+
+  -- nor starts before the asked time
+  pub found-late : t ≤ send .start .0
+  found-late = place-get (Sent t send) (listed (r .free)) i found-at .late
+
+  pub found-inside : (r .window .start .0 ≤ send .start .0) × (send .end .0 ≤ r .window .end .0)
+  found-inside = offered-inside [] 0 (r .window .end .0) (send .start .0) (send .end .0) 0 (listed (r .free)) _ i (q .free) found-offered
+
+  -- its dates are in the window
+  pub found-dates : (send .start .0 ≤ 2 ^ 40) × (send .end .0 ≤ 2 ^ 40)
+  found-dates =
+      let date : r .window .end .0 ≤ 2 ^ 40 = q .window .date in
+      (omega (arith, found-inside .1, found-after), omega (arith, found-inside .1))

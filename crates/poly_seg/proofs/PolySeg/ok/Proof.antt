@@ -1,0 +1,120 @@
+-- `poly_seg::PolySeg::ok` meets its contract: each test that fails answers no.
+use borrow.Author.Needs.{needs}
+use borrow.Author.Tests.{not-true, not-false}
+use mathlib.Core.Bool.{true}
+use mathlib.Core.Path.{_≡_, sym, _∙_}
+use lib.ListN.{drop}
+use Rattle.units.specs.Logic.{allOf}
+use Rattle.units.specs.Limits.{windowOk}
+use Rattle.units.proofs.Logic.{both-go, both-stop}
+use Rattle.units.proofs.Counted.{counted-none, counted-many, counted-is}
+use Rattle.contact.specs.Segments.{noDelay}
+use Rattle.poly_seg.specs.Open.{delaysOk}
+use Rattle.poly_seg.proofs.Lookup.{delays-most}
+use Rattle.poly_seg.proofs.Facts.{Opens, record-window, record-delays, record-polynome, record-delayed, record-listed}
+use Rattle.poly_seg.proofs.PolySeg.ok.Statement.{statement}
+use Rattle.poly_seg.proofs.PolySeg.ok.Tie as tie
+
+-- the tests that hold
+window-holds : (c : tie.Else1) → windowOk (c .before .before .before .before .before .before .before .args .self .window) ≡ true
+window-holds c = sym (c .before .is-window .ensures) ∙ not-false _ (c .if1 .left)
+
+delays-hold : (c : tie.Else2) →
+    let s = c .before .before .before .before .before .before .before .before .before .args .self in
+    delaysOk (s .«delay_count») (s .delays) ≡ true
+delays-hold c = sym (c .before .delays-ok .ensures) ∙ not-false _ (c .if2 .left)
+
+opens : (c : tie.Else3) → Opens (c .before .before .before .before .before .before .before .before .before .before .before .args .self)
+opens c =
+    let two = c .before .before in
+    record {
+      window = window-holds (two .before .before);
+      delay = delays-hold two;
+      polynome = sym (c .before .ok .ensures) ∙ not-false _ (c .if3 .left);
+    }
+
+unused-holds : (c : tie.Else4) →
+    let s = c .before .before .before .before .before .before .before .before .before .before .before .before .before .args .self in
+    allOf noDelay (drop (s .«delay_count») (s .delays)) ≡ true
+unused-holds c = sym (c .before .delays-unused .ensures) ∙ not-false _ (c .if4 .left)
+
+is-window-requires : tie.Need-is-window-requires
+is-window-requires c κs = search needs
+
+returns : tie.Need-returns
+returns c = sym (record-window _ (sym (c .before .is-window .ensures) ∙ not-true _ (c .if1 .taken)))
+
+delays-ok-requires : tie.Need-delays-ok-requires
+delays-ok-requires c κs = search needs
+
+returns-2 : tie.Need-returns-2
+returns-2 c =
+    sym (record-delays _ (window-holds (c .before .before)) (sym (c .before .delays-ok .ensures) ∙ not-true _ (c .if2 .taken)))
+
+ok-requires : tie.Need-ok-requires
+ok-requires c κs = search needs
+
+returns-3 : tie.Need-returns-3
+returns-3 c =
+    let two = c .before .before in
+    sym (record-polynome _ (window-holds (two .before .before)) (delays-hold two) (sym (c .before .ok .ensures) ∙ not-true _ (c .if3 .taken)))
+
+delays-unused-requires : tie.Need-delays-unused-requires
+delays-unused-requires c κs = delays-most _ _ (delays-hold (c .before .before))
+
+returns-4 : tie.Need-returns-4
+returns-4 c =
+    sym (record-delayed _ (opens (c .before .before)) (sym (c .before .delays-unused .ensures) ∙ not-true _ (c .if4 .taken)))
+
+returns-5 : tie.Need-returns-5
+returns-5 c =
+    let four = c .before in
+    sym (record-listed _ (opens (four .before .before)) (unused-holds four) ∙ counted-none 64 _ _ (c .if5 .taken))
+
+returns-6 : tie.Need-returns-6
+returns-6 c =
+    let four = c .before .before in
+    sym (record-listed _ (opens (four .before .before)) (unused-holds four) ∙ counted-many 64 _ _ (c .before .if5 .left) (c .if6 .taken))
+
+bare-ok-requires : tie.Need-bare-ok-requires
+bare-ok-requires c κs = (c .if6 .left, opens (c .before .before .before .before) .window)
+
+returns-7 : tie.Need-returns-7
+returns-7 c =
+    let six = c .before .before in
+    let four = six .before .before in
+    sym (record-listed _ (opens (four .before .before)) (unused-holds four)
+    ∙ counted-is 64 _ _ (six .before .if5 .left) (six .if6 .left)
+    ∙ both-stop _ _ (sym (c .before .bare-ok .ensures) ∙ not-true _ (c .if7 .taken)))
+
+unused-requires : tie.Need-unused-requires
+unused-requires c κs = c .before .before .if6 .left
+
+returns-8 : tie.Need-returns-8
+returns-8 c =
+    let seven = c .before in
+    let six = seven .before .before in
+    let four = six .before .before in
+    c .unused .ensures
+    ∙ sym (record-listed _ (opens (four .before .before)) (unused-holds four)
+    ∙ counted-is 64 _ _ (six .before .if5 .left) (six .if6 .left)
+    ∙ both-go _ _ (sym (seven .before .bare-ok .ensures) ∙ not-false _ (seven .if7 .left)))
+
+pub ok-spec : {M : Type 1} → statement M
+ok-spec =
+    tie.close
+    (tie.spec
+    is-window-requires
+    returns
+    delays-ok-requires
+    returns-2
+    ok-requires
+    returns-3
+    delays-unused-requires
+    returns-4
+    returns-5
+    returns-6
+    bare-ok-requires
+    returns-7
+    unused-requires
+    returns-8)

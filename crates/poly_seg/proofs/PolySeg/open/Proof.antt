@@ -1,0 +1,88 @@
+-- `poly_seg::PolySeg::open` meets its contract, refusal by refusal.
+use borrow.Author.Needs.{needs}
+use borrow.Author.Tests.{not-true, not-false}
+use mathlib.Core.Bool.{true}
+use mathlib.Core.Path.{_≡_, sym, _∙_}
+use Rattle.units.specs.Limits.{windowOk}
+use Rattle.poly_seg.specs.Open.{delaysOk}
+use Rattle.poly_seg.proofs.Lookup.{delays-most}
+use Rattle.poly_seg.proofs.Calls.{open-window, open-delays, open-polynome, open-parts}
+use Rattle.poly_seg.proofs.PolySeg.open.Statement.{statement}
+use Rattle.poly_seg.proofs.PolySeg.open.Tie as tie
+
+-- the tests that hold
+window-holds : (c : tie.Else1) → windowOk (c .before .before .args .window) ≡ true
+window-holds c = sym (c .before .is-window .ensures) ∙ not-false _ (c .if1 .left)
+
+delays-hold : (c : tie.Else2) → let a = c .before .before .before .before .args in delaysOk (a .delay-count) (a .delays) ≡ true
+delays-hold c = sym (c .before .delays-ok .ensures) ∙ not-false _ (c .if2 .left)
+
+is-window-requires : tie.Need-is-window-requires
+is-window-requires c κs = search needs
+
+refused-opening-requires : tie.Need-refused-opening-requires
+refused-opening-requires c κs = search needs
+
+returns : tie.Need-returns
+returns c =
+    c .refused-opening .ensures ∙ sym (open-window _ _ _ _ (sym (c .before .before .is-window .ensures) ∙ not-true _ (c .before .if1 .taken)))
+
+delays-ok-requires : tie.Need-delays-ok-requires
+delays-ok-requires c κs = search needs
+
+refused-opening-requires-2 : tie.Need-refused-opening-requires-2
+refused-opening-requires-2 c κs = search needs
+
+returns-2 : tie.Need-returns-2
+returns-2 c =
+    let d = c .before .before in
+    c .refused-opening2 .ensures
+    ∙ sym (open-delays _ _ _ _ (window-holds (d .before)) (sym (d .delays-ok .ensures) ∙ not-true _ (c .before .if2 .taken)))
+
+ok-requires : tie.Need-ok-requires
+ok-requires c κs = search needs
+
+refused-opening-requires-3 : tie.Need-refused-opening-requires-3
+refused-opening-requires-3 c κs = search needs
+
+returns-3 : tie.Need-returns-3
+returns-3 c =
+    let o = c .before .before in
+    let two = o .before in
+    c .refused-opening3 .ensures
+    ∙ sym (open-polynome _ _ _ _ (window-holds (two .before .before)) (delays-hold two) (sym (o .ok .ensures) ∙ not-true _ (c .before .if3 .taken)))
+
+delays-of-requires : tie.Need-delays-of-requires
+delays-of-requires c κs = delays-most _ _ (delays-hold (c .before .before))
+
+whole-requires : tie.Need-whole-requires
+whole-requires c κs = search needs
+
+returns-4 : tie.Need-returns-4
+returns-4 c =
+    let three = c .before .before in
+    let two = three .before .before in
+    open-parts _ _ _ _
+    (record {
+      window = window-holds (two .before .before);
+      delay = delays-hold two;
+      polynome = sym (three .before .ok .ensures) ∙ not-false _ (three .if3 .left);
+    })
+    _ (c .before .delays-of .ensures) _ (c .whole .ensures)
+
+pub open-spec : {M : Type 1} → statement M
+open-spec =
+    tie.close
+    (tie.spec
+    is-window-requires
+    refused-opening-requires
+    returns
+    delays-ok-requires
+    refused-opening-requires-2
+    returns-2
+    ok-requires
+    refused-opening-requires-3
+    returns-3
+    delays-of-requires
+    whole-requires
+    returns-4)

@@ -1,0 +1,5 @@
+pub mod Open
+pub mod Record
+pub mod DryRun
+pub mod Book
+pub mod List

@@ -1,0 +1,57 @@
+-- 01, "Refusal numbers", the polynomial manager's opening: 3, 5, 11 in this order; the whole window is listed, bare.
+use Prim.Native.Nat.{ℕ}
+use mathlib.Core.Bool.{Bool}
+use mathlib.Core.List.{List, [], _∷_}
+use lib.Dec.{leb}
+use lib.IntN.{pos}
+use lib.ListN.{take, replicate}
+use Rattle.units.specs.declared.Interval.{Interval}
+use Rattle.units.specs.Logic.{both, unless, allOf}
+use Rattle.units.specs.Limits.{dateMax, delayMax, windowOk}
+use Rattle.units.specs.Answer.{interval}
+use Rattle.units.specs.Arrays.{padded}
+use Rattle.segmentation.specs.declared.DelaySegment.{DelaySegment}
+use Rattle.contact.specs.Segments.{zeroDelay}
+use Rattle.free_list.specs.Cut.{listIn, wholeWindow}
+use Rattle.poly.specs.declared.Polynome.{Polynome}
+use Rattle.poly.specs.Poly.{polyOk}
+use Rattle.poly_seg.specs.declared.Opened.{Opened}
+
+-- the dates and the delay of a delay segment inside their limits
+unfoldable pub delayOk : DelaySegment → Bool
+delayOk s = both (leb (s .start .0) dateMax) (both (leb (s .end .0) dateMax) (leb (s .delay .0) delayMax))
+
+-- refusal 5: only a count above 16 or a number outside its limits
+unfoldable pub delaysOk : ℕ → List DelaySegment → Bool
+delaysOk n l = both (leb n 16) (allOf delayOk (take n l))
+
+-- a refused opening returns an all-zero record
+abbrev pub refusedOpening : ℕ → Opened
+refusedOpening n =
+    record {
+      number = n;
+      manager = record {
+        window = interval 0 0;
+        polynome = record { coefficients = replicate 4 (pos 0); offset = record { 0 = 0 } };
+        delays = replicate 16 zeroDelay;
+        «delay_count» = 0;
+        free = listIn [];
+      };
+    }
+
+-- the opening
+unfoldable pub openOf : Interval → Polynome → List DelaySegment → ℕ → Opened
+openOf w p delays k =
+    unless (windowOk w) (refusedOpening 3)
+    (unless (delaysOk k delays) (refusedOpening 5)
+    (unless (polyOk p w) (refusedOpening 11)
+    (record {
+      number = 0;
+      manager = record {
+        window = w;
+        polynome = p;
+        delays = padded 16 zeroDelay (take k delays);
+        «delay_count» = k;
+        free = listIn (wholeWindow w 0 ∷ []);
+      };
+    })))

@@ -1,0 +1,373 @@
+// The polynomial manager (poly_seg.rs: PolySegManager): open, dry run, book, list.
+use free_list::Found;
+use free_list::FreeList;
+use poly::Polynome;
+use segmentation::DelaySegment;
+use segmentation::End;
+use segmentation::RateSegment;
+use segmentation::VolumeSegment;
+use units::Bundle;
+use units::Date;
+use units::Delay;
+use units::Interval;
+use units::Offer;
+use units::TxData;
+use units::Volume;
+ghost use mathlib.Core.Path.{_≡_};
+ghost use mathlib.Core.Bool.{true};
+ghost use mathlib.Core.List.{[]};
+ghost use Prim.Native.Nat.{_≤_, _^_};
+ghost use lib.ListN.{take};
+ghost use Rattle.units.specs.Limits.{windowOk};
+ghost use Rattle.segmentation.specs.Delay.{answerWith};
+ghost use Rattle.free_list.specs.Listed.{segmentOk, listOk};
+ghost use Rattle.free_list.specs.Granted.{Inside};
+ghost use Rattle.poly_seg.specs.Open.{openOf, refusedOpening, delayOk, delaysOk};
+ghost use Rattle.poly_seg.specs.Record.{recordOk, delayList};
+ghost use Rattle.poly_seg.specs.DryRun.{endIn, foundOf, dryRunOf};
+ghost use Rattle.poly_seg.specs.Book.{bookOf, bookedOf, refusedBooking};
+ghost use Rattle.poly_seg.specs.List.{listOf};
+
+pub struct PolySeg {
+    pub window: Interval,
+    pub polynome: Polynome,
+    pub delays: [DelaySegment; DelaySegment::COUNT_MAX],
+    pub delay_count: usize,
+    pub free: FreeList,
+}
+
+// The answer of an opening: 01's number and the record, which is zero on a refusal.
+pub struct Opened {
+    pub number: u8,
+    pub manager: PolySeg,
+}
+
+// The answer of a booking: 01's number and the record, which is the one that came on a refusal.
+pub struct Booked {
+    pub number: u8,
+    pub manager: PolySeg,
+}
+
+// The answer of a list: 01's number and the listed segments, none on a refusal.
+pub struct Listing {
+    pub number: u8,
+    pub list: FreeList,
+}
+
+// Are the delay's dates and the delay inside their limits?
+pub fn delay_ok(s: DelaySegment) -> bool
+    ensures { λ r. ⌜ r ≡ delayOk s ⌝ }
+{
+    if Date::MAX < s.start.0 {
+        return false;
+    }
+    if Date::MAX < s.end.0 {
+        return false;
+    }
+    s.delay.0 <= Delay::MAX
+}
+
+// The delay list: at most 16 segments, each number inside its limits, nothing else.
+pub fn delays_ok(delays: [DelaySegment; DelaySegment::COUNT_MAX], count: usize) -> bool
+    ensures { λ r. ⌜ r ≡ delaysOk count delays ⌝ }
+{
+    if DelaySegment::COUNT_MAX < count {
+        return false;
+    }
+    let mut i: usize = 0;
+    loop {
+        if count <= i {
+            break true;
+        }
+        let s = delays[i];
+        if !delay_ok(s) {
+            break false;
+        }
+        i += 1;
+    }
+}
+
+// A listed segment in its turn: in the window from a date on, forward, with no volume.
+pub fn bare_segment(g: VolumeSegment, low: Date, hi: Date) -> bool
+    ensures { λ r. ⌜ r ≡ segmentOk [] (low .0) (hi .0) g ⌝ }
+{
+    if g.start.0 < low.0 {
+        return false;
+    }
+    if g.end.0 < g.start.0 {
+        return false;
+    }
+    if hi.0 < g.end.0 {
+        return false;
+    }
+    g.volume.0 == 0
+}
+
+// Does the free list keep its rules: in the window, in order, no volumes?
+pub fn bare_ok(segments: [VolumeSegment; FreeList::COUNT_MAX], n: usize, window: Interval) -> bool
+    requires { ⌜ n ≤ 64 ⌝ ∗ ⌜ windowOk window ≡ true ⌝ }
+    ensures { λ r. ⌜ r ≡ listOk [] (window .start .0) (window .end .0) (take n segments) ⌝ }
+{
+    let hi = window.end;
+    let mut i: usize = 0;
+    let mut low = window.start;
+    loop {
+        if n <= i {
+            break true;
+        }
+        let g = segments[i];
+        if !bare_segment(g, low, hi) {
+            break false;
+        }
+        low = Date(g.end.0 + 1);
+        i += 1;
+    }
+}
+
+impl PolySeg {
+    fn refused_opening(number: u8) -> Opened
+        ensures { λ r. ⌜ r ≡ refusedOpening number ⌝ }
+    {
+        let delay = DelaySegment {
+            start: Date(0),
+            end: Date(0),
+            delay: Delay(0),
+        };
+        let delays = [delay; DelaySegment::COUNT_MAX];
+        let free = FreeList::nothing();
+        Opened {
+            number: number,
+            manager: PolySeg {
+                window: Interval {
+                    start: Date(0),
+                    end: Date(0),
+                },
+                polynome: Polynome {
+                    coefficients: [0i64; Polynome::COEFFICIENTS],
+                    offset: Date(0),
+                },
+                delays: delays,
+                delay_count: 0,
+                free: free,
+            },
+        }
+    }
+
+    fn refused_booking(self, number: u8) -> Booked
+        ensures { λ r. ⌜ r ≡ refusedBooking number self ⌝ }
+    {
+        Booked {
+            number: number,
+            manager: self,
+        }
+    }
+
+    // new and try_init: 3, 5, 11 in this order; the whole window is listed, bare.
+    pub fn open(
+        window: Interval,
+        polynome: Polynome,
+        delays: [DelaySegment; DelaySegment::COUNT_MAX],
+        delay_count: usize,
+    ) -> Opened
+        ensures { λ r. ⌜ r ≡ openOf window polynome delays «delay_count» ⌝ }
+    {
+        if !window.is_window() {
+            return PolySeg::refused_opening(units::refusal::WINDOW);
+        }
+        if !delays_ok(delays, delay_count) {
+            return PolySeg::refused_opening(units::refusal::DELAYS);
+        }
+        if !polynome.ok(window) {
+            return PolySeg::refused_opening(units::refusal::POLYNOMIAL);
+        }
+        let kept = contact::opening::delays_of(delays, delay_count);
+        let free = FreeList::whole(window, Volume(0));
+        Opened {
+            number: 0,
+            manager: PolySeg {
+                window: window,
+                polynome: polynome,
+                delays: kept,
+                delay_count: delay_count,
+                free: free,
+            },
+        }
+    }
+
+    // Does the record keep its rules?
+    pub fn ok(self) -> bool
+        ensures { λ r. ⌜ r ≡ recordOk self ⌝ }
+    {
+        let window = self.window;
+        let polynome = self.polynome;
+        let delays = self.delays;
+        let k = self.delay_count;
+        let free = self.free;
+        let segments = free.segments;
+        let n = free.count;
+        if !window.is_window() {
+            return false;
+        }
+        if !delays_ok(delays, k) {
+            return false;
+        }
+        if !polynome.ok(window) {
+            return false;
+        }
+        if !contact::test::delays_unused(delays, k) {
+            return false;
+        }
+        if n < 1 {
+            return false;
+        }
+        if FreeList::COUNT_MAX < n {
+            return false;
+        }
+        if !bare_ok(segments, n, window) {
+            return false;
+        }
+        free_list::unused(segments, n)
+    }
+
+    // The end that a listed segment has for the bundle: none if it ends before the asked time.
+    fn end_in(self, g: VolumeSegment, asked: Date, size: Volume) -> End
+        requires { ⌜ recordOk self ≡ true ⌝ ∗ ⌜ (self .window .start .0 ≤ g .start .0) × (g .end .0 ≤ self .window .end .0) ⌝ ∗ ⌜ size .0 ≤ 2 ^ 38 ⌝ }
+        ensures { λ r. ⌜ r ≡ endIn (self .polynome) g (asked .0) (size .0) ⌝ }
+    {
+        let start = g.start;
+        let end = g.end;
+        if end.0 < asked.0 {
+            return End::None;
+        }
+        let window = self.window;
+        let polynome = self.polynome;
+        let from = units::later(start, asked);
+        polynome.find_end(
+            window,
+            Interval {
+                start: start,
+                end: end,
+            },
+            from,
+            size,
+        )
+    }
+
+    // The search of a dry run, on a record that keeps its rules: a free segment that has no end is passed over.
+    fn search(self, asked: Date, size: Volume) -> Found
+        requires { ⌜ recordOk self ≡ true ⌝ ∗ ⌜ size .0 ≤ 2 ^ 38 ⌝ }
+        ensures { λ r. ⌜ r ≡ foundOf self (asked .0) (size .0) ⌝ }
+    {
+        let free = self.free;
+        let segments = free.segments;
+        let n = free.count;
+        let mut i: usize = 0;
+        loop {
+            if n <= i {
+                break Found::None;
+            }
+            let g = segments[i];
+            let End::At(e) = self.end_in(g, asked, size) else {
+                i += 1;
+                continue;
+            };
+            let from = units::later(g.start, asked);
+            break Found::At {
+                place: i,
+                send: Interval {
+                    start: from,
+                    end: e,
+                },
+            };
+        }
+    }
+
+    // The offer of a send interval, with its delays.
+    fn answer(self, send: Interval) -> Offer
+        requires { ⌜ recordOk self ≡ true ⌝ ∗ ⌜ (send .start .0 ≤ 2 ^ 40) × (send .end .0 ≤ 2 ^ 40) ⌝ }
+        ensures { λ r. ⌜ r ≡ answerWith (delayList self) send ⌝ }
+    {
+        let delays = self.delays;
+        let k = self.delay_count;
+        segmentation::answer_at(delays, k, send)
+    }
+
+    // dry_run_tx: 1, 2, then 7 or 8.
+    pub fn dry_run(self, at: Date, bundle: Bundle) -> Offer
+        ensures { λ r. ⌜ r ≡ dryRunOf self at bundle ⌝ }
+    {
+        if !self.ok() {
+            return Offer::refused(units::refusal::RECORD);
+        }
+        if !bundle.ok_at(at) {
+            return Offer::refused(units::refusal::BUNDLE);
+        }
+        let size = bundle.size;
+        let Found::At { place: _, send } = self.search(at, size) else {
+            return Offer::refused(units::refusal::NO_OFFER);
+        };
+        self.answer(send)
+    }
+
+    // schedule_tx, with the time that the dry run was asked: 1, 2, 9, then 10.
+    pub fn book(self, at: Date, bundle: Bundle, dates: TxData) -> Booked
+        ensures { λ r. ⌜ r ≡ bookOf self at bundle dates ⌝ }
+    {
+        if !self.ok() {
+            return self.refused_booking(units::refusal::RECORD);
+        }
+        if !bundle.ok_at(at) {
+            return self.refused_booking(units::refusal::BUNDLE);
+        }
+        let size = bundle.size;
+        let Found::At { place, send } = self.search(at, size) else {
+            return self.refused_booking(units::refusal::NOT_OFFERED);
+        };
+        let offer = self.answer(send);
+        if !offer.is(dates) {
+            return self.refused_booking(units::refusal::NOT_OFFERED);
+        }
+        self.cut(place, send)
+    }
+
+    // What a booking leaves of the record, on a record that keeps its rules: no rates, so no volumes.
+    fn cut(self, place: usize, send: Interval) -> Booked
+        requires { ⌜ Inside (self .free) place 0 ⌝ }
+        ensures { λ r. ⌜ r ≡ bookedOf self place send ⌝ }
+    {
+        let zero = VolumeSegment {
+            start: Date(0),
+            end: Date(0),
+            volume: Volume(0),
+        };
+        let rates = [zero; RateSegment::COUNT_MAX];
+        let free = self.free;
+        let done = free.cut(rates, 0, place, send, Volume(0));
+        let number = done.number;
+        let left = done.list;
+        let mut next = self;
+        next.free = left;
+        Booked {
+            number: number,
+            manager: next,
+        }
+    }
+
+    // The listed segments: 1.
+    pub fn list(self) -> Listing
+        ensures { λ r. ⌜ r ≡ listOf self ⌝ }
+    {
+        if !self.ok() {
+            let none = FreeList::nothing();
+            return Listing {
+                number: units::refusal::RECORD,
+                list: none,
+            };
+        }
+        let free = self.free;
+        Listing {
+            number: 0,
+            list: free,
+        }
+    }
+}
