@@ -1,4 +1,4 @@
-// Records that break one rule each, and valid ones at the border of a rule: what every call of each manager answers.
+// Records built to break a rule, and valid ones at the border of one: what every call of each manager answers.
 pub mod free;
 pub mod out;
 pub mod priority;
