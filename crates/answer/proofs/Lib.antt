@@ -1,0 +1,4 @@
+pub mod Stretches
+pub mod Turns
+pub mod Stored
+pub mod Unique

@@ -1,0 +1,5 @@
+pub mod Fields
+pub mod Segments
+pub mod Opening
+pub mod Polynomial
+pub mod Queue
