@@ -1,5 +1,7 @@
 pub mod Digits
+pub mod Carried
 pub mod Bytes
 pub mod Numbers
+pub mod Horner
 pub mod Complement
 pub mod Unique

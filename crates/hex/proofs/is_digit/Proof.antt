@@ -1,24 +1,21 @@
--- `hex::is_digit` meets its contract: below, in and between the two ranges, and above.
-use mathlib.Core.Path.{sym}
+-- `hex::is_digit` meets its contract: a test for each range.
 use native.Mathlib.Omega.{arith}
-use Rattle.hex.proofs.Digits.{digit-decimal, digit-letter, digit-below, digit-between, digit-above}
+use borrow.Author.Needs.{needs}
+use Rattle.hex.proofs.Digits.{digit-less}
 use Rattle.hex.proofs.is_digit.Statement.{statement}
 use Rattle.hex.proofs.is_digit.Tie as tie
 
+wrapping-sub-u8-requires : tie.Need-wrapping-sub-u8-requires
+wrapping-sub-u8-requires c κs = search needs
+
+wrapping-sub-u8-requires-2 : tie.Need-wrapping-sub-u8-requires-2
+wrapping-sub-u8-requires-2 c κs = search needs
+
 returns : tie.Need-returns
-returns c = sym (digit-below _ (omega arith))
-
-returns-2 : tie.Need-returns-2
-returns-2 c = sym (digit-decimal _ (omega arith) (omega arith))
-
-returns-3 : tie.Need-returns-3
-returns-3 c = sym (digit-between _ (omega arith) (omega arith))
-
-returns-4 : tie.Need-returns-4
-returns-4 c = sym (digit-letter _ (omega arith) (omega arith))
-
-returns-5 : tie.Need-returns-5
-returns-5 c = sym (digit-above _ (omega arith))
+returns c =
+    let a = c .before .wrapping-sub-u8 .result in
+    let b = c .wrapping-sub-u82 .result in
+    digit-less _ a b _ _ (omega arith) (omega arith) (omega arith) (omega arith) (omega arith) (omega arith)
 
 pub is-digit-spec : {M : Type 1} → statement M
-is-digit-spec = tie.close (tie.spec returns returns-2 returns-3 returns-4 returns-5)
+is-digit-spec = tie.close (tie.spec wrapping-sub-u8-requires wrapping-sub-u8-requires-2 returns)
