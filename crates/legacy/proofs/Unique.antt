@@ -32,8 +32,12 @@ use Rattle.legacy.proofs.Queue.open.Kinds as open-kinds
 use Rattle.legacy.proofs.Queue.open.Reads as open-reads
 use Rattle.legacy.proofs.Queue.ok.Kinds as ok-kinds
 use Rattle.legacy.proofs.Queue.ok.Reads as ok-reads
+use Rattle.legacy.proofs.Queue.dry_run_kept.Kinds as dry-run-kept-kinds
+use Rattle.legacy.proofs.Queue.dry_run_kept.Reads as dry-run-kept-reads
 use Rattle.legacy.proofs.Queue.dry_run.Kinds as dry-run-kinds
 use Rattle.legacy.proofs.Queue.dry_run.Reads as dry-run-reads
+use Rattle.legacy.proofs.Queue.book_kept.Kinds as book-kept-kinds
+use Rattle.legacy.proofs.Queue.book_kept.Reads as book-kept-reads
 use Rattle.legacy.proofs.Queue.book.Kinds as book-kinds
 use Rattle.legacy.proofs.Queue.book.Reads as book-reads
 use Rattle.legacy.proofs.Queue.enqueue.Kinds as enqueue-kinds
@@ -58,11 +62,23 @@ pub ok-unique : (self : Queue) (s s′ : AtExit (endedOf 0 ok-kinds.ps ok-kinds.
     → r ≡ q
 ok-unique self s s′ r q h k = h ∙ sym k
 
+pub dry-run-kept-unique : (self : Queue) (at : Date) (b : Bundle) (s s′ : AtExit (endedOf 0 dry-run-kept-kinds.ps dry-run-kept-kinds.r) tt) (r q : Offer)
+    → dry-run-kept-reads.Post tt (self, (at, (b, tt))) r s
+    → dry-run-kept-reads.Post tt (self, (at, (b, tt))) q s′
+    → r ≡ q
+dry-run-kept-unique self at b s s′ r q h k = h ∙ sym k
+
 pub dry-run-unique : (self : Queue) (at : Date) (b : Bundle) (s s′ : AtExit (endedOf 0 dry-run-kinds.ps dry-run-kinds.r) tt) (r q : Offer)
     → dry-run-reads.Post tt (self, (at, (b, tt))) r s
     → dry-run-reads.Post tt (self, (at, (b, tt))) q s′
     → r ≡ q
 dry-run-unique self at b s s′ r q h k = h ∙ sym k
+
+pub book-kept-unique : (self : Queue) (at : Date) (b : Bundle) (d : TxData) (s s′ : AtExit (endedOf 0 book-kept-kinds.ps book-kept-kinds.r) tt) (r q : Booked)
+    → book-kept-reads.Post tt (self, (at, (b, (d, tt)))) r s
+    → book-kept-reads.Post tt (self, (at, (b, (d, tt)))) q s′
+    → r ≡ q
+book-kept-unique self at b d s s′ r q h k = h ∙ sym k
 
 pub book-unique : (self : Queue) (at : Date) (b : Bundle) (d : TxData) (s s′ : AtExit (endedOf 0 book-kinds.ps book-kinds.r) tt) (r q : Booked)
     → book-reads.Post tt (self, (at, (b, (d, tt)))) r s

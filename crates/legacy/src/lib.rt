@@ -280,6 +280,17 @@ impl Queue {
         }
     }
 
+    // The dry run on a record that keeps its rules, without testing it again: for a caller who holds such a record.
+    pub fn dry_run_kept(self, at: Date, bundle: Bundle) -> Offer
+        requires { ⌜ recordOk self ≡ true ⌝ }
+        ensures { λ r. ⌜ r ≡ dryRunOf self at bundle ⌝ }
+    {
+        if !bundle.ok_at(at) {
+            return Offer::refused(units::refusal::BUNDLE);
+        }
+        self.answer(at, bundle)
+    }
+
     // dry_run_tx: 1, 2, then 7.
     pub fn dry_run(self, at: Date, bundle: Bundle) -> Offer
         ensures { λ r. ⌜ r ≡ dryRunOf self at bundle ⌝ }
@@ -287,10 +298,7 @@ impl Queue {
         if !self.ok() {
             return Offer::refused(units::refusal::RECORD);
         }
-        if !bundle.ok_at(at) {
-            return Offer::refused(units::refusal::BUNDLE);
-        }
-        self.answer(at, bundle)
+        self.dry_run_kept(at, bundle)
     }
 
     fn refused_queueing(self, number: u8) -> Booked
@@ -344,13 +352,11 @@ impl Queue {
         }
     }
 
-    // schedule_tx, with the time that the dry run was asked: 1, 2, 9, then 13; enqueues only under self-update.
-    pub fn book(self, at: Date, bundle: Bundle, dates: TxData) -> Booked
+    // The booking on such a record.
+    pub fn book_kept(self, at: Date, bundle: Bundle, dates: TxData) -> Booked
+        requires { ⌜ recordOk self ≡ true ⌝ }
         ensures { λ r. ⌜ r ≡ bookOf self at bundle dates ⌝ }
     {
-        if !self.ok() {
-            return self.refused_queueing(units::refusal::RECORD);
-        }
         if !bundle.ok_at(at) {
             return self.refused_queueing(units::refusal::BUNDLE);
         }
@@ -367,6 +373,16 @@ impl Queue {
             number: 0,
             manager: self,
         }
+    }
+
+    // schedule_tx, with the time that the dry run was asked: 1, 2, 9, then 13; enqueues only under self-update.
+    pub fn book(self, at: Date, bundle: Bundle, dates: TxData) -> Booked
+        ensures { λ r. ⌜ r ≡ bookOf self at bundle dates ⌝ }
+    {
+        if !self.ok() {
+            return self.refused_queueing(units::refusal::RECORD);
+        }
+        self.book_kept(at, bundle, dates)
     }
 
     // manual_enqueue: 1, 2, 12, 13.

@@ -17,12 +17,13 @@ use Rattle.segmentation.specs.declared.VolumeSegment.{VolumeSegment}
 use Rattle.segmentation.specs.Granted.{AllShort}
 use Rattle.contact.specs.Segments.{zeroVolume, noVolume, noDelay}
 use Rattle.free_list.specs.declared.Found.the-variants.{At}
+use Rattle.free_list.specs.Granted.{Inside}
 use Rattle.free_list.specs.Listed.{listOk}
 use Rattle.free_list.specs.Cut.{listed}
 use Rattle.free_list.proofs.ListedLaws.{Listed, listed-true}
 use Rattle.free_list.proofs.Offered.{AtPlace, place-get, listed-at, Here, Offered}
 use Rattle.free_list.proofs.CutLaws.{offered-inside}
-use Rattle.free_list.proofs.CutList.{Kept}
+use Rattle.free_list.proofs.CutList.{Kept, offered-inside-list}
 use Rattle.poly.specs.Poly.{polyOk}
 use Rattle.poly.specs.Granted.{Ranged}
 use Rattle.poly.proofs.Range.{ranged}
@@ -162,3 +163,7 @@ module _ (r : PolySeg) (q : Facts r) (t v : ℕ) (pos : 1 ≤ v) (i : ℕ) (send
   found-dates =
       let date : r .window .end .0 ≤ 2 ^ 40 = q .window .date in
       (omega (arith, found-inside .1, found-after), omega (arith, found-inside .1))
+
+  -- what the cut's call asks
+  pub cut-asks : Inside (r .free) i 0
+  cut-asks = offered-inside-list _ _ _ _ _ _ _ (q .few) (q .unused) found-offered

@@ -17,7 +17,9 @@ use Rattle.poly_seg.proofs.bare_segment.Reads as bare-segment-reads
 use Rattle.poly_seg.proofs.bare_ok.Reads as bare-ok-reads
 use Rattle.poly_seg.proofs.PolySeg.open.Reads as open-reads
 use Rattle.poly_seg.proofs.PolySeg.ok.Reads as ok-reads
+use Rattle.poly_seg.proofs.PolySeg.dry_run_kept.Reads as dry-run-kept-reads
 use Rattle.poly_seg.proofs.PolySeg.dry_run.Reads as dry-run-reads
+use Rattle.poly_seg.proofs.PolySeg.book_kept.Reads as book-kept-reads
 use Rattle.poly_seg.proofs.PolySeg.book.Reads as book-reads
 use Rattle.poly_seg.proofs.PolySeg.list.Reads as list-reads
 
@@ -40,8 +42,14 @@ module _ (self : PolySeg) where
   pub ok-unique : Determined (ok-reads.Post tt (self, tt))
   ok-unique r q x y f g = f ∙ sym g
 
+  pub dry-run-kept-unique : (at : Date) (b : Bundle) → Determined (dry-run-kept-reads.Post tt (self, (at, (b, tt))))
+  dry-run-kept-unique at b r q x y f g = f ∙ sym g
+
   pub dry-run-unique : (at : Date) (b : Bundle) → Determined (dry-run-reads.Post tt (self, (at, (b, tt))))
   dry-run-unique at b r q x y f g = f ∙ sym g
+
+  pub book-kept-unique : (at : Date) (b : Bundle) (d : TxData) → Determined (book-kept-reads.Post tt (self, (at, (b, (d, tt)))))
+  book-kept-unique at b d r q x y f g = f ∙ sym g
 
   pub book-unique : (at : Date) (b : Bundle) (d : TxData) → Determined (book-reads.Post tt (self, (at, (b, (d, tt)))))
   book-unique at b d r q x y f g = f ∙ sym g

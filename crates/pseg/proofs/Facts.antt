@@ -91,9 +91,13 @@ module _ (r : PrioritySeg) (q : Facts r) (t : ℕ) (b : Bundle) (send : Interval
     found-ends = end-ends (ratesOf (r .contact)) (send .start .0) (b .size .0) pos (r .contact .window .end .0) (send .end) (found-free .ends)
 
     -- its dates are in the window
-    pub found-dates : (send .start .0 ≤ 2 ^ 40) × (send .end .0 ≤ 2 ^ 40)
+    found-dates : (send .start .0 ≤ 2 ^ 40) × (send .end .0 ≤ 2 ^ 40)
     found-dates =
         let forth = found-ends .forth in
         let by = found-ends .by in
         let date = q .contact .date in
         (omega (arith, forth, by, date), omega (arith, by, date))
+
+    -- what the answer's call asks
+    pub answer-asks : (contactOk (r .contact) ≡ true) × ((send .start .0 ≤ 2 ^ 40) × (send .end .0 ≤ 2 ^ 40))
+    answer-asks = (q .test, found-dates)

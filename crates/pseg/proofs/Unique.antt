@@ -14,7 +14,9 @@ use Rattle.pseg.proofs.nothing.Reads as nothing-reads
 use Rattle.pseg.proofs.whole.Reads as whole-reads
 use Rattle.pseg.proofs.PrioritySeg.open.Reads as open-reads
 use Rattle.pseg.proofs.PrioritySeg.ok.Reads as ok-reads
+use Rattle.pseg.proofs.PrioritySeg.dry_run_kept.Reads as dry-run-kept-reads
 use Rattle.pseg.proofs.PrioritySeg.dry_run.Reads as dry-run-reads
+use Rattle.pseg.proofs.PrioritySeg.book_kept.Reads as book-kept-reads
 use Rattle.pseg.proofs.PrioritySeg.book.Reads as book-reads
 use Rattle.pseg.proofs.PrioritySeg.list.Reads as list-reads
 
@@ -31,8 +33,14 @@ module _ (self : PrioritySeg) where
   pub ok-unique : Determined (ok-reads.Post tt (self, tt))
   ok-unique r q x y f g = f ∙ sym g
 
+  pub dry-run-kept-unique : (at : Date) (b : Bundle) → Determined (dry-run-kept-reads.Post tt (self, (at, (b, tt))))
+  dry-run-kept-unique at b r q x y f g = f ∙ sym g
+
   pub dry-run-unique : (at : Date) (b : Bundle) → Determined (dry-run-reads.Post tt (self, (at, (b, tt))))
   dry-run-unique at b r q x y f g = f ∙ sym g
+
+  pub book-kept-unique : (at : Date) (b : Bundle) (d : TxData) → Determined (book-kept-reads.Post tt (self, (at, (b, (d, tt)))))
+  book-kept-unique at b d r q x y f g = f ∙ sym g
 
   pub book-unique : (at : Date) (b : Bundle) (d : TxData) → Determined (book-reads.Post tt (self, (at, (b, (d, tt)))))
   book-unique at b d r q x y f g = f ∙ sym g

@@ -16,12 +16,13 @@ use Rattle.contact.specs.Segments.{noVolume}
 use Rattle.contact.specs.Record.{contactOk, ratesOf}
 use Rattle.contact.proofs.Sound.{Sound, sound}
 use Rattle.free_list.specs.declared.Found.the-variants.{At}
+use Rattle.free_list.specs.Granted.{Inside}
 use Rattle.free_list.specs.Listed.{listOk}
 use Rattle.free_list.specs.Cut.{listed}
 use Rattle.free_list.proofs.ListedLaws.{Listed, listed-true}
 use Rattle.free_list.proofs.Offered.{Offered, exact-laws, offer-at}
 use Rattle.free_list.proofs.CutLaws.{offered-inside, offered-ends}
-use Rattle.free_list.proofs.CutList.{Kept}
+use Rattle.free_list.proofs.CutList.{Kept, offered-inside-list}
 use Rattle.seg.specs.declared.FreeVolume.{FreeVolume}
 use Rattle.seg.specs.Record.{freeOk, recordOk}
 use Rattle.seg.specs.DryRun.{foundOf}
@@ -67,10 +68,18 @@ module _ (r : FreeVolume) (q : Facts r) (t v : ℕ) (pos : 0 < v) (i : ℕ) (sen
       (exact-laws (ratesOf (r .contact)) (r .contact .window .start .0)) pos (listed (r .free)) (r .contact .window .start .0) i (q .free) (le-refl _) h
 
   -- its dates are in the window
-  pub found-dates : (send .start .0 ≤ 2 ^ 40) × (send .end .0 ≤ 2 ^ 40)
+  found-dates : (send .start .0 ≤ 2 ^ 40) × (send .end .0 ≤ 2 ^ 40)
   found-dates =
       let l = ratesOf (r .contact) in
       let in-window = offered-inside l (topOf l) (r .contact .window .end .0) (send .start .0) (send .end .0) v (listed (r .free)) _ i (q .free) found-offered in
       let forth = offered-ends l (topOf l) (send .start .0) (send .end .0) v (listed (r .free)) i found-offered .1 .forth in
       let date : r .contact .window .end .0 ≤ 2 ^ 40 = q .contact .date in
       (omega (arith, in-window .1, forth), omega (arith, in-window .1))
+
+  -- what the answer's call asks
+  pub answer-asks : (contactOk (r .contact) ≡ true) × ((send .start .0 ≤ 2 ^ 40) × (send .end .0 ≤ 2 ^ 40))
+  answer-asks = (q .test, found-dates)
+
+  -- what the cut's call asks
+  pub cut-asks : Inside (r .free) i v
+  cut-asks = offered-inside-list _ _ _ _ _ _ _ (q .few) (q .unused) found-offered

@@ -12,7 +12,9 @@ use Rattle.segmentation.specs.declared.DelaySegment.{DelaySegment}
 use Rattle.seg.specs.declared.FreeVolume.{FreeVolume}
 use Rattle.seg.proofs.FreeVolume.open.Reads as open-reads
 use Rattle.seg.proofs.FreeVolume.ok.Reads as ok-reads
+use Rattle.seg.proofs.FreeVolume.dry_run_kept.Reads as dry-run-kept-reads
 use Rattle.seg.proofs.FreeVolume.dry_run.Reads as dry-run-reads
+use Rattle.seg.proofs.FreeVolume.book_kept.Reads as book-kept-reads
 use Rattle.seg.proofs.FreeVolume.book.Reads as book-reads
 use Rattle.seg.proofs.FreeVolume.list.Reads as list-reads
 
@@ -23,8 +25,14 @@ module _ (self : FreeVolume) where
   pub ok-unique : Determined (ok-reads.Post tt (self, tt))
   ok-unique r q x y f g = f ∙ sym g
 
+  pub dry-run-kept-unique : (at : Date) (b : Bundle) → Determined (dry-run-kept-reads.Post tt (self, (at, (b, tt))))
+  dry-run-kept-unique at b r q x y f g = f ∙ sym g
+
   pub dry-run-unique : (at : Date) (b : Bundle) → Determined (dry-run-reads.Post tt (self, (at, (b, tt))))
   dry-run-unique at b r q x y f g = f ∙ sym g
+
+  pub book-kept-unique : (at : Date) (b : Bundle) (d : TxData) → Determined (book-kept-reads.Post tt (self, (at, (b, (d, tt)))))
+  book-kept-unique at b d r q x y f g = f ∙ sym g
 
   pub book-unique : (at : Date) (b : Bundle) (d : TxData) → Determined (book-reads.Post tt (self, (at, (b, (d, tt)))))
   book-unique at b d r q x y f g = f ∙ sym g

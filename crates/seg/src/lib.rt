@@ -136,13 +136,11 @@ impl FreeVolume {
         free_list::find_offer(rates, m, segments, n, window, at, size)
     }
 
-    // dry_run_tx: 1, 2, then 7 or 8.
-    pub fn dry_run(self, at: Date, bundle: Bundle) -> Offer
+    // The dry run on a record that keeps its rules, without testing it again: for a caller who holds such a record.
+    pub fn dry_run_kept(self, at: Date, bundle: Bundle) -> Offer
+        requires { ⌜ recordOk self ≡ true ⌝ }
         ensures { λ r. ⌜ r ≡ dryRunOf self at bundle ⌝ }
     {
-        if !self.ok() {
-            return Offer::refused(units::refusal::RECORD);
-        }
         if !bundle.ok_at(at) {
             return Offer::refused(units::refusal::BUNDLE);
         }
@@ -154,13 +152,21 @@ impl FreeVolume {
         contact.answer(send)
     }
 
-    // schedule_tx, with the time that the dry run was asked: 1, 2, 9, then 10.
-    pub fn book(self, at: Date, bundle: Bundle, dates: TxData) -> Booked
-        ensures { λ r. ⌜ r ≡ bookOf self at bundle dates ⌝ }
+    // dry_run_tx: 1, 2, then 7 or 8.
+    pub fn dry_run(self, at: Date, bundle: Bundle) -> Offer
+        ensures { λ r. ⌜ r ≡ dryRunOf self at bundle ⌝ }
     {
         if !self.ok() {
-            return self.refused_booking(units::refusal::RECORD);
+            return Offer::refused(units::refusal::RECORD);
         }
+        self.dry_run_kept(at, bundle)
+    }
+
+    // The booking on such a record.
+    pub fn book_kept(self, at: Date, bundle: Bundle, dates: TxData) -> Booked
+        requires { ⌜ recordOk self ≡ true ⌝ }
+        ensures { λ r. ⌜ r ≡ bookOf self at bundle dates ⌝ }
+    {
         if !bundle.ok_at(at) {
             return self.refused_booking(units::refusal::BUNDLE);
         }
@@ -174,6 +180,16 @@ impl FreeVolume {
             return self.refused_booking(units::refusal::NOT_OFFERED);
         }
         self.cut(place, send, size)
+    }
+
+    // schedule_tx, with the time that the dry run was asked: 1, 2, 9, then 10.
+    pub fn book(self, at: Date, bundle: Bundle, dates: TxData) -> Booked
+        ensures { λ r. ⌜ r ≡ bookOf self at bundle dates ⌝ }
+    {
+        if !self.ok() {
+            return self.refused_booking(units::refusal::RECORD);
+        }
+        self.book_kept(at, bundle, dates)
     }
 
     // What a booking leaves of the record, on a record that keeps its rules.

@@ -1,30 +1,10 @@
--- `pseg::PrioritySeg::dry_run` meets its contract, refusal by refusal.
+-- `pseg::PrioritySeg::dry_run` meets its contract: the record's test, then the dry run on a record that keeps its rules.
 use borrow.Author.Needs.{needs}
-use borrow.Author.Tests.{not-true, not-false}
-use mathlib.Core.Bool.{true}
-use mathlib.Core.Path.{_≡_, sym, _∙_}
-use Rattle.units.specs.Limits.{bundleOk}
-use Rattle.units.proofs.Loads.{asked-load, load}
-use Rattle.bookings.specs.declared.Run.the-variants.{Sent}
-use Rattle.pseg.specs.Record.{recordOk}
-use Rattle.pseg.specs.DryRun.{runOf}
-use Rattle.pseg.proofs.Facts.{facts, found-dates}
-use Rattle.pseg.proofs.Calls.{unsent, dry-record, dry-bundle, dry-none, dry-at}
+use mathlib.Core.Path.{sym, _∙_}
+use Rattle.units.proofs.Choice.{told-yes, told-no}
+use Rattle.pseg.proofs.Calls.{dry-record}
 use Rattle.pseg.proofs.PrioritySeg.dry_run.Statement.{statement}
 use Rattle.pseg.proofs.PrioritySeg.dry_run.Tie as tie
-
--- the tests that hold
-record-holds : (c : tie.Else1) → recordOk (c .before .before .args .self) ≡ true
-record-holds c = sym (c .before .ok .ensures) ∙ not-false _ (c .if1 .left)
-
-bundle-holds : (c : tie.Else2) → let a = c .before .before .before .before .args in bundleOk (a .at) (a .bundle) ≡ true
-bundle-holds c = sym (c .before .ok-at .ensures) ∙ not-false _ (c .if2 .left)
-
--- what the search found
-found : (c : tie.After-send) →
-    let a = c .before .before .before .before .before .before .before .args in
-    runOf (a .self) (a .at .0) (a .bundle) ≡ Sent (c .send .given .0 .0)
-found c = sym (c .before .before .search .ensures) ∙ c .send .given .1
 
 ok-requires : tie.Need-ok-requires
 ok-requires c κs = search needs
@@ -34,61 +14,13 @@ refused-requires c κs = search needs
 
 returns : tie.Need-returns
 returns c =
-    c .refused .ensures ∙ sym (dry-record _ _ _ (sym (c .before .before .ok .ensures) ∙ not-true _ (c .before .if1 .taken)))
+    c .refused .ensures ∙ sym (dry-record _ _ _ (told-no (c .before .before .ok .ensures) (c .before .if1 .taken)))
 
-ok-at-requires : tie.Need-ok-at-requires
-ok-at-requires c κs = search needs
-
-refused-requires-2 : tie.Need-refused-requires-2
-refused-requires-2 c κs = search needs
+dry-run-kept-requires : tie.Need-dry-run-kept-requires
+dry-run-kept-requires c κs = told-yes (c .before .ok .ensures) (c .if1 .left)
 
 returns-2 : tie.Need-returns-2
-returns-2 c =
-    let a = c .before .before in
-    c .refused2 .ensures ∙ sym (dry-bundle _ _ _ (record-holds (a .before)) (sym (a .ok-at .ensures) ∙ not-true _ (c .before .if2 .taken)))
-
-search-requires : tie.Need-search-requires
-search-requires c κs = (record-holds (c .before .before), load _ (asked-load _ _ (bundle-holds c)) .some)
-
-enum-known-send : tie.Need-enum-known-send
-enum-known-send c = search needs
-
-refused-requires-3 : tie.Need-refused-requires-3
-refused-requires-3 c κs = search needs
-
-returns-3 : tie.Need-returns-3
-returns-3 c =
-    let f = c .before .before in
-    let two = f .before in
-    c .refused3 .ensures
-    ∙ sym (dry-none _ _ _ (record-holds (two .before .before)) (bundle-holds two) (f .search .result) (sym (f .search .ensures)) (unsent (f .search .result) (c .before .match .keys2)))
-
-answer-requires : tie.Need-answer-requires
-answer-requires c κs =
-    let s = c .before .before in
-    let two = s .before .before .before in
-    let q = facts _ (record-holds (two .before .before)) in
-    (q .test, found-dates _ q _ _ _ (found s) (load _ (asked-load _ _ (bundle-holds two)) .some))
-
-returns-4 : tie.Need-returns-4
-returns-4 c =
-    let s = c .before .before .before in
-    let two = s .before .before .before in
-    c .answer .ensures ∙ sym (dry-at _ _ _ (record-holds (two .before .before)) (bundle-holds two) _ (found s))
+returns-2 c = c .dry-run-kept .ensures
 
 pub dry-run-spec : {M : Type 1} → statement M
-dry-run-spec =
-    tie.close
-    (tie.spec
-    ok-requires
-    refused-requires
-    returns
-    ok-at-requires
-    refused-requires-2
-    returns-2
-    search-requires
-    enum-known-send
-    refused-requires-3
-    returns-3
-    answer-requires
-    returns-4)
+dry-run-spec = tie.close (tie.spec ok-requires refused-requires returns dry-run-kept-requires returns-2)
