@@ -1,0 +1,5 @@
+pub mod Table
+pub mod Told
+pub mod Few
+pub mod Unique
+pub mod Lengths

@@ -1,0 +1,24 @@
+-- `frames::booking::queue` meets its contract: what the layout gives is booked.
+use borrow.Author.Needs.{needs}
+use Rattle.frames.proofs.booking.queue.Statement.{statement}
+use Rattle.frames.proofs.booking.queue.Tie as tie
+
+date-at-requires : tie.Need-date-at-requires
+date-at-requires c κs = search needs
+
+bundle-at-requires : tie.Need-bundle-at-requires
+bundle-at-requires c κs = search needs
+
+dates-at-requires : tie.Need-dates-at-requires
+dates-at-requires c κs = search needs
+
+book-requires : tie.Need-book-requires
+book-requires c κs = search needs
+
+returns : tie.Need-returns
+returns c =
+    let b = c .before .before in
+    rw (c .book .ensures, c .before .dates-at .ensures, b .bundle-at .ensures, b .before .date-at .ensures)
+
+pub queue-spec : {M : Type 1} → statement M
+queue-spec = tie.close (tie.spec date-at-requires bundle-at-requires dates-at-requires book-requires returns)

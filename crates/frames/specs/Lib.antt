@@ -1,0 +1,4 @@
+pub mod Opening
+pub mod Booking
+pub mod Calls
+pub mod Step
