@@ -32,6 +32,8 @@ use Rattle.frames.proofs.booking.queue.Kinds as booking-queue-kinds
 use Rattle.frames.proofs.booking.queue.Reads as booking-queue-reads
 use Rattle.frames.proofs.calls.offer.Kinds as offer-kinds
 use Rattle.frames.proofs.calls.offer.Reads as offer-reads
+use Rattle.frames.proofs.kept.offer.Kinds as kept-offer-kinds
+use Rattle.frames.proofs.kept.offer.Reads as kept-offer-reads
 use Rattle.frames.proofs.calls.book.Kinds as book-kinds
 use Rattle.frames.proofs.calls.book.Reads as book-reads
 use Rattle.frames.proofs.calls.enqueue.Kinds as enqueue-kinds
@@ -42,6 +44,8 @@ use Rattle.frames.proofs.calls.list.Kinds as list-kinds
 use Rattle.frames.proofs.calls.list.Reads as list-reads
 use Rattle.frames.proofs.show.Kinds as show-kinds
 use Rattle.frames.proofs.show.Reads as show-reads
+use Rattle.frames.proofs.kept.show.Kinds as kept-show-kinds
+use Rattle.frames.proofs.kept.show.Reads as kept-show-reads
 use Rattle.frames.proofs.step.Kinds as step-kinds
 use Rattle.frames.proofs.step.Reads as step-reads
 
@@ -94,6 +98,9 @@ module _ (κs : Lfts 1) where
   pub dequeue-unique : (a : Dens κs dequeue-kinds.ps) → Determined (dequeue-reads.Post κs a)
   dequeue-unique a r q x y f g = f ∙ sym g
 
+  pub kept-offer-unique : (a : Dens κs kept-offer-kinds.ps) → Determined (kept-offer-reads.Post κs a)
+  kept-offer-unique a r q x y f g = f ∙ sym g
+
 -- an answer, with what stands behind the reference at the end
 abbrev Leaves : {R X : Type 0} → (X → List ℕ) → (R → X → Type 0) → R × List ℕ → X → Type 0
 Leaves behind P o x = (o .1 ≡ behind x) × P (o .0) x
@@ -115,3 +122,7 @@ module _ (κs : Lfts 2) where
   pub step-unique : (a : Dens κs step-kinds.ps)
       → Determined (Leaves (λ (s : AtExit (endedOf 2 step-kinds.ps step-kinds.r) κs). s .0 .now) (step-reads.Post κs a))
   step-unique a = named _ _ _
+
+  pub kept-show-unique : (a : Dens κs kept-show-kinds.ps)
+      → Determined (Leaves (λ (s : AtExit (endedOf 2 kept-show-kinds.ps kept-show-kinds.r) κs). s .0 .now) (kept-show-reads.Post κs a))
+  kept-show-unique a = named _ _ _

@@ -1,6 +1,7 @@
 // One line of the trace program: the frame kind decides the layout and the call; the answer's line is written, and what is held next is returned.
 pub mod booking;
 pub mod calls;
+pub mod kept;
 pub mod opening;
 
 use held::Done;

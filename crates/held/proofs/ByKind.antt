@@ -8,6 +8,8 @@ use Rattle.legacy.specs.declared.Booked.{Booked}
 use Rattle.held.specs.declared.Kind.{Kind}
 use Rattle.held.specs.declared.Held.{Held}
 use Rattle.held.specs.declared.Done.{Done}
+use mathlib.Core.Bool.{Bool, true}
+use Rattle.held.specs.Rules.{okAs, heldOk}
 use Rattle.held.specs.Calls.{dryRunAs, dryRunHeld, bookAs, bookHeld, queueingAs}
 
 of-kind : {A : Type 0} (f : Kind → A) {k j : Kind} {r : A} → k ≡ j → r ≡ f j → r ≡ f k
@@ -22,3 +24,10 @@ module _ (h : Held) {k : Kind} where
 
   pub queueing-as : (done : Booked) {r : Done} → h .kind ≡ k → r ≡ queueingAs k done h → r ≡ queueingAs (h .kind) done h
   queueing-as done e q = of-kind (λ (j : Kind). queueingAs j done h) e q
+
+  pub ok-as : {r : Bool} → h .kind ≡ k → r ≡ okAs k h → r ≡ heldOk h
+  ok-as e q = of-kind (λ (j : Kind). okAs j h) e q
+
+  -- what is held keeps the rules of the kind found there
+  pub kept-as : h .kind ≡ k → heldOk h ≡ true → okAs k h ≡ true
+  kept-as e q = ap (λ (j : Kind). okAs j h) (sym e) ∙ q

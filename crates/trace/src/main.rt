@@ -99,65 +99,93 @@ fn finish(reply: &mut [u8], out: &mut [u8; LINE], line: &[u8], carry: Carry) -> 
     }
 }
 
-// All whole lines of a chunk from a place on. What is held stays in one place: by value it would be copied at every line.
+// The answer waits, and there is room for the next.
+fn say(reply: &mut [u8], waiting: usize, out: &[u8], n: usize) -> usize {
+    let more = copy(reply, waiting, out, n);
+    room(reply, more)
+}
+
+// All whole lines of a chunk from a place on. What is held stays in one place, since by value it would be copied at every line,
+// and its rules are tested again only where a line replaces it: dry runs and bookings keep them.
 fn feed(reply: &mut [u8], out: &mut [u8; LINE], chunk: &[u8], start: usize, first: Carry) -> Carry
     requires { ⌜ start ≤ length (now chunk) ⌝ }
 {
-    let mut waiting = first.waiting;
     let mut held = first.held;
+    let mut good = held.ok();
+    let mut waiting = first.waiting;
+    let mut n = 0;
     let mut from = start;
     let mut end = line_end(chunk, from);
     while end < chunk.len() {
         let line = &chunk[from..end];
         from = end + 1;
-        waiting = room(reply, waiting);
-        let mut n = 0;
+        end = line_end(chunk, from);
+        waiting = say(reply, waiting, out, n);
+        n = 0;
         if !frames::is_line(line) {
             n = answer::put_number(out, NO_FRAME);
-        } else if frames::booking::fits(line) {
-            let kind = held.kind;
-            let number = match kind {
-                Kind::Nothing => units::refusal::RECORD,
-                Kind::Free => {
-                    let b = frames::booking::free(line, held.free);
-                    let r = b.manager;
-                    held.free = r;
-                    b.number
+            continue;
+        }
+        if good {
+            if frames::booking::fits(line) {
+                let kind = held.kind;
+                match kind {
+                    Kind::Nothing => {
+                        n = answer::put_number(out, units::refusal::RECORD);
+                        continue;
+                    }
+                    Kind::Free => {
+                        let r = held.free;
+                        let b = frames::booking::free(line, r);
+                        let m = b.manager;
+                        held.free = m;
+                        n = answer::put_number(out, b.number);
+                        continue;
+                    }
+                    Kind::Priority => {
+                        let r = held.priority;
+                        let b = frames::booking::priority(line, r);
+                        let m = b.manager;
+                        held.priority = m;
+                        n = answer::put_number(out, b.number);
+                        continue;
+                    }
+                    Kind::Polynomial => {
+                        let r = held.polynomial;
+                        let b = frames::booking::polynomial(line, r);
+                        let m = b.manager;
+                        held.polynomial = m;
+                        n = answer::put_number(out, b.number);
+                        continue;
+                    }
+                    Kind::Queue => {
+                        let r = held.queue;
+                        let b = frames::booking::queue(line, r);
+                        let m = b.manager;
+                        held.queue = m;
+                        n = answer::put_number(out, b.number);
+                        continue;
+                    }
                 }
-                Kind::Priority => {
-                    let b = frames::booking::priority(line, held.priority);
-                    let r = b.manager;
-                    held.priority = r;
-                    b.number
-                }
-                Kind::Polynomial => {
-                    let b = frames::booking::polynomial(line, held.polynomial);
-                    let r = b.manager;
-                    held.polynomial = r;
-                    b.number
-                }
-                Kind::Queue => {
-                    let b = frames::booking::queue(line, held.queue);
-                    let r = b.manager;
-                    held.queue = r;
-                    b.number
-                }
-            };
-            n = answer::put_number(out, number);
-        } else if frames::can_change(line) {
+            }
+        }
+        if frames::can_change(line) {
             let done = frames::change(line, held);
             let next = done.held;
             held = next;
+            good = held.ok();
             n = answer::put_number(out, done.number);
-        } else {
-            n = frames::show(out, line, held);
+            continue;
         }
-        waiting = copy(reply, waiting, out, n);
-        end = line_end(chunk, from);
+        if good {
+            n = frames::kept::show(out, line, held);
+            continue;
+        }
+        n = frames::show(out, line, held);
     }
     Carry {
         kept: from,
-        waiting: waiting,
+        waiting: copy(reply, waiting, out, n),
         held: held,
     }
 }

@@ -12,13 +12,13 @@ bundle-at-requires c κs = search needs
 dates-at-requires : tie.Need-dates-at-requires
 dates-at-requires c κs = search needs
 
-book-requires : tie.Need-book-requires
-book-requires c κs = search needs
+book-kept-requires : tie.Need-book-kept-requires
+book-kept-requires c κs = search needs
 
 returns : tie.Need-returns
 returns c =
     let b = c .before .before in
-    rw (c .book .ensures, c .before .dates-at .ensures, b .bundle-at .ensures, b .before .date-at .ensures)
+    rw (c .book-kept .ensures, c .before .dates-at .ensures, b .bundle-at .ensures, b .before .date-at .ensures)
 
 pub polynomial-spec : {M : Type 1} → statement M
-polynomial-spec = tie.close (tie.spec date-at-requires bundle-at-requires dates-at-requires book-requires returns)
+polynomial-spec = tie.close (tie.spec date-at-requires bundle-at-requires dates-at-requires book-kept-requires returns)
