@@ -201,6 +201,9 @@ pub fn even_poly(rng: &mut Rng) -> PolyOpening {
 /// A polynomial that mostly obeys the range rule: a coefficient of power i is
 /// kept to about 2^61 / (5 distance^(i+1)), or small.
 pub fn poly(rng: &mut Rng, scale: Scale) -> PolyOpening {
+    if matches!(scale, Scale::Limit) && rng.once_in(3) {
+        return poly_at_limit(rng);
+    }
     let window = window(rng, scale);
     let offset = match rng.below(6) {
         0 => window.start,
@@ -221,6 +224,42 @@ pub fn poly(rng: &mut Rng, scale: Scale) -> PolyOpening {
     for (power, coefficient) in coefficients.iter_mut().enumerate() {
         let most = (MAX_COEFFICIENT as i128 / 5 / far.saturating_pow(power as u32 + 1)) as i64;
         *coefficient = this_coefficient(rng, power, most);
+    }
+    PolyOpening {
+        window,
+        offset,
+        coefficients,
+        delays: loose_delays(rng, window),
+    }
+}
+
+/// One or two ticks beside the offset, so that a coefficient of 2^61 obeys the
+/// range rule, alone or with what is left of it to another.
+fn poly_at_limit(rng: &mut Rng) -> PolyOpening {
+    let offset = rng.pick(&[1, 2, 1000, MAX_DATE - 1]);
+    let window = match rng.below(3) {
+        0 => Window {
+            start: offset,
+            end: offset + 1,
+        },
+        1 => Window {
+            start: offset - 1,
+            end: offset,
+        },
+        _ => Window {
+            start: offset - 1,
+            end: offset + 1,
+        },
+    };
+    let mut coefficients = [0; COEFFICIENTS];
+    let power = rng.below(COEFFICIENTS);
+    coefficients[power] = MAX_COEFFICIENT - rng.between(0, 2);
+    if power > 0 {
+        // the quotient leaves room below
+        coefficients[0] = rng.between(0, MAX_COEFFICIENT / 4);
+    }
+    if rng.once_in(3) {
+        coefficients[power] = -coefficients[power];
     }
     PolyOpening {
         window,
