@@ -15,7 +15,7 @@ use Rattle.text.proofs.Written.{and-then}
 use Rattle.answer.specs.Lines.{lineEnd, numberLine, offerLine, listLine}
 
 -- the text stands at the front of the line, and r is its length
-abbrev Stored : List ℕ → List ℕ → ℕ → List ℕ → Type 0
+abbrev pub Stored : List ℕ → List ℕ → ℕ → List ℕ → Type 0
 Stored line text r end = (r ≡ length text) × (end ≡ written line 0 text)
 
 module _ (line : List ℕ) {r : ℕ} {end : List ℕ} where

@@ -16,6 +16,7 @@ use Rattle.legacy.specs.declared.Listing.{Listing as QueueListing}
 use Rattle.legacy.specs.List.{listOf as listQueue}
 use Rattle.hex.specs.Digits.{byteAt}
 use Rattle.text.specs.Line.{written}
+use Rattle.answer.proofs.Stored.{Stored}
 use Rattle.answer.specs.Lines.{numberLine, volumesLine, bookingsLine, queuesLine}
 use Rattle.held.specs.declared.Kind.{Kind}
 use Rattle.held.specs.declared.Kind.the-variants.{Nothing, Free, Priority, Polynomial, Queue}
@@ -25,11 +26,7 @@ use Rattle.frames.specs.Opening.{noFrame}
 use Rattle.frames.specs.Calls.{listAs, listHeld}
 use Rattle.frames.specs.Step.{isLine, changes, changeOf, showOf, told, stepOf, steppedOf}
 
--- the text stands at the front of the line, and r is its length
-abbrev pub Stored : List ℕ → List ℕ → ℕ → List ℕ → Type 0
-Stored line text r end = (r ≡ length text) × (end ≡ written line 0 text)
-
--- so does a text that is equal
+-- a text that stands at the front of the line does so under an equal one too
 pub stored-as : (line : List ℕ) {text same : List ℕ} {r : ℕ} {end : List ℕ} → text ≡ same → Stored line text r end → Stored line same r end
 stored-as line e s = (s .0 ∙ ap length e, s .1 ∙ ap (written line 0) e)
 

@@ -23,14 +23,18 @@ use Rattle.layout.specs.Fields.{dateAt, bundleAt, datesAt, hasBytes}
 unfoldable pub isBooking : List ℕ → Bool
 isBooking line = both (eqb (byteAt line 0) 17) (hasBytes line 50)
 
+-- the free-volume manager's booking with the line's figures
 abbrev pub freeBooking : List ℕ → FreeVolume → FreeBooked
 freeBooking line r = bookFree r (dateAt line 1) (bundleAt line 9) (datesAt line 18)
 
+-- the priority manager's booking with the line's figures
 abbrev pub priorityBooking : List ℕ → PrioritySeg → PriorityBooked
 priorityBooking line r = bookPriority r (dateAt line 1) (bundleAt line 9) (datesAt line 18)
 
+-- the polynomial manager's booking with the line's figures
 abbrev pub polynomialBooking : List ℕ → PolySeg → PolynomialBooked
 polynomialBooking line r = bookPolynomial r (dateAt line 1) (bundleAt line 9) (datesAt line 18)
 
+-- the queue manager's booking with the line's figures
 abbrev pub queueBooking : List ℕ → Queue → QueueBooked
 queueBooking line r = bookQueue r (dateAt line 1) (bundleAt line 9) (datesAt line 18)

@@ -37,6 +37,7 @@ enqueueFrame line h = unless (hasBytes line 10) (noFrame h) (enqueueHeld h (bund
 unfoldable pub dequeueFrame : List ℕ → Held → Done
 dequeueFrame line h = unless (hasBytes line 10) (noFrame h) (dequeueHeld h (bundleAt line 1))
 
+-- with none open, 01; else the list of the record of the kind, as its manager lists it
 unfoldable pub listAs : Kind → Held → List ℕ
 listAs Nothing h = numberLine 1
 listAs Free h = let l : FreeListing = listFree (h .free) in volumesLine (l .number) (l .list)

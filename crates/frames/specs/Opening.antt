@@ -25,33 +25,41 @@ use Rattle.held.specs.State.{refusedCall, keptFree, keptPriority, keptPolynomia
 abbrev pub noFrame : Held → Done
 noFrame h = refusedCall h 255
 
+-- the free-volume opening with the frame's figures
 unfoldable pub freeOpened : Opening → FreeOpened
 freeOpened f = openFree (f .window) (f .rates) (f .«rate_count») (f .delays) (f .«delay_count»)
 
+-- 01, and a refused opening keeps the old record
 unfoldable pub freeFrame : List ℕ → Held → Done
 freeFrame line h =
     let o : FreeOpened = freeOpened (openingOf line) in
     unless (hasBytes line (openingLength line)) (noFrame h) (keptFree h (o .number) (o .manager))
 
+-- the priority opening with the same figures
 unfoldable pub priorityOpened : Opening → PriorityOpened
 priorityOpened f = openPriority (f .window) (f .rates) (f .«rate_count») (f .delays) (f .«delay_count»)
 
+-- 02, likewise
 unfoldable pub priorityFrame : List ℕ → Held → Done
 priorityFrame line h =
     let o : PriorityOpened = priorityOpened (openingOf line) in
     unless (hasBytes line (openingLength line)) (noFrame h) (keptPriority h (o .number) (o .manager))
 
+-- the polynomial opening with the frame's figures
 unfoldable pub polynomialOpened : PolynomialOpening → PolynomialOpened
 polynomialOpened f = openPolynomial (f .window) (f .polynome) (f .delays) (f .«delay_count»)
 
+-- 03, likewise
 unfoldable pub polynomialFrame : List ℕ → Held → Done
 polynomialFrame line h =
     let o : PolynomialOpened = polynomialOpened (polynomialOf line) in
     unless (hasBytes line (polynomialLength line)) (noFrame h) (keptPolynomial h (o .number) (o .manager))
 
+-- the queue opening with the frame's figures
 unfoldable pub queueOpened : QueueOpening → QueueOpened
 queueOpened f = openQueue (f .window) (f .rate) (f .delay) (f .classes) (f .flags) (f .budgets)
 
+-- 04, likewise; flags above 7 are no frame
 unfoldable pub queueFrame : List ℕ → Held → Done
 queueFrame line h =
     let o : QueueOpened = queueOpened (queueOf line) in
