@@ -1,12 +1,15 @@
 -- The search for a run, case by case and turn by turn.
 use Prim.Native.Nat.{ℕ, _<_, _≤_, max}
 use mathlib.Core.Path.{_≡_, refl, sym, ap, _∙_}
+use mathlib.Core.Bool.{Bool, true, false}
 use mathlib.Core.List.{List, [], _∷_}
+use mathlib.Core.Logic.{⊎-elim}
 use native.Mathlib.Omega.{arith}
 use lib.ListN.{length, take, getD}
 use borrow.Author.Tests.{le-leb, lt-leb, lt-ltb, le-ltb}
 use Rattle.units.specs.declared.Date.{Date}
 use Rattle.units.specs.declared.Interval.{Interval}
+use Rattle.units.proofs.Numbers.{le-or-lt}
 use Rattle.units.proofs.Places.{place-holds}
 use Rattle.segmentation.specs.declared.VolumeSegment.{VolumeSegment}
 use Rattle.segmentation.specs.declared.End.{End}
@@ -16,7 +19,7 @@ use Rattle.bookings.specs.declared.BookingSegment.{BookingSegment}
 use Rattle.bookings.specs.declared.Run.{Run}
 use Rattle.bookings.specs.declared.Run.the-variants.{Idle, Going, Sent}
 use Rattle.bookings.specs.Search.{reachOf, beginOf, brokenOf, freeOf, turnOf, searchOf}
-use Rattle.bookings.specs.Granted.{From}
+use Rattle.bookings.specs.Granted.{From, stateOf}
 
 module _ (b : ℕ) (run : Interval) where
   pub reach-now : run .end .0 ≤ b → reachOf b run ≡ Sent run
@@ -79,13 +82,40 @@ abbrev pub searchOn : (ℕ → End) → ℕ → ℕ → Run → List BookingSegm
 searchOn E t p r f = searchOf E t p f r
 
 module _ (E : ℕ → End) (t p : ℕ) where
-  pub search-step : (g : BookingSegment) (f : List BookingSegment) (r x : Run) → x ≡ turnOf E t p g r → searchOf E t p (g ∷ f) r ≡ searchOf E t p f x
+  -- a turn's answer is the state that the rest is searched from
+  pub search-step : (g : BookingSegment) (f : List BookingSegment) (r now x y : Run) → now ≡ r → x ≡ turnOf E t p g now → x ≡ y
+      → searchOf E t p (g ∷ f) r ≡ searchOf E t p f y
   unfolding searchOf
-  search-step g f r x h = ap (searchOf E t p f) (sym h)
+  search-step g f r now x y e h k = ap (searchOf E t p f) (ap (turnOf E t p g) (sym e) ∙ sym h ∙ k)
 
   pub search-end : (r : Run) → searchOf E t p [] r ≡ r
   unfolding searchOf
   search-end r = refl
+
+  turn-stays : (g : BookingSegment) (run : Interval) → turnOf E t p g (Sent run) ≡ Sent run
+  turn-stays g run =
+      ⊎-elim
+      (λ (h : g .end .0 ≤ t). turn-skip E t p g (Sent run) h)
+      (λ (h : t < g .end .0).
+      ⊎-elim
+      (λ (k : g .level .0 ≤ p). turn-sent E t p g (Sent run) h k run refl)
+      (λ (k : p < g .level .0). turn-broken E t p g (Sent run) h k ∙ broken-sent run (Sent run) refl)
+      (le-or-lt (g .level .0) p))
+      (le-or-lt (g .end .0) t)
+
+  -- an offer stays
+  pub sent-stays : (f : List BookingSegment) (run : Interval) → searchOf E t p f (Sent run) ≡ Sent run
+  unfolding searchOf
+  sent-stays [] run = refl
+  sent-stays (g ∷ f) run = ap (searchOf E t p f) (turn-stays g run) ∙ sent-stays f run
+
+-- A state as two numbers.
+module _ (going : Bool) (run : Interval) where
+  pub state-going : going ≡ true → stateOf going run ≡ Going run
+  state-going e = rw e
+
+  pub state-idle : going ≡ false → stateOf going run ≡ Idle
+  state-idle e = rw e
 
 -- What the end rule takes for granted at each turn.
 pub covers-later : (a b : ℕ) (l : List VolumeSegment) → a ≤ b → Covers a l → Covers b l

@@ -21,20 +21,25 @@ pub fn parts(g: BookingSegment, send: Interval, level: Level) -> Parts
     let first = g.start;
     let last = g.end;
     let old = g.level;
+    let same = BookingSegment {
+        start: first,
+        end: last,
+        level: old,
+    };
     if last.0 <= s.0 {
         return Parts {
-            before: g,
-            middle: g,
-            after: g,
+            before: same,
+            middle: same,
+            after: same,
             befores: 0,
             afters: 0,
         };
     }
     if e.0 <= first.0 {
         return Parts {
-            before: g,
-            middle: g,
-            after: g,
+            before: same,
+            middle: same,
+            after: same,
             befores: 0,
             afters: 0,
         };

@@ -15,7 +15,7 @@ ghost use Rattle.segmentation.specs.End.{endOf};
 ghost use Rattle.bookings.specs.declared.Run.the-variants.{Idle};
 ghost use Rattle.bookings.specs.Listed.{follows, coverOk, noBooking};
 ghost use Rattle.bookings.specs.Search.{ruleOf, reachOf, beginOf, brokenOf, turnOf, searchOf};
-ghost use Rattle.bookings.specs.Granted.{From};
+ghost use Rattle.bookings.specs.Granted.{From, stateOf};
 
 pub mod cut;
 
@@ -221,6 +221,13 @@ pub fn turn(
     }
 }
 
+// A search that has found no offer yet, as two numbers: held as a `Run` it would be copied at each turn.
+fn state(going: bool, run: Interval) -> Run
+    ensures { λ r. ⌜ r ≡ stateOf going run ⌝ }
+{
+    if going { Run::Going(run) } else { Run::Idle }
+}
+
 // dry_run_tx: the first run of segments below the priority that reaches its end.
 pub fn find_run(
     rates: [VolumeSegment; RateSegment::COUNT_MAX],
@@ -237,12 +244,27 @@ pub fn find_run(
 {
     let deadline = window.end;
     let mut i: usize = 0;
-    let mut now = Run::Idle;
-    while i < n {
+    let mut going = false;
+    let mut run = window;
+    loop {
+        let now = state(going, run);
+        if n <= i {
+            break now;
+        }
         let g = segments[i];
-        let next = turn(rates, m, asked, size, priority, deadline, g, now);
-        now = next;
-        i += 1;
+        match turn(rates, m, asked, size, priority, deadline, g, now) {
+            Run::Sent(found) => {
+                break Run::Sent(found);
+            }
+            Run::Going(next) => {
+                going = true;
+                run = next;
+                i += 1;
+            }
+            Run::Idle => {
+                going = false;
+                i += 1;
+            }
+        }
     }
-    now
 }

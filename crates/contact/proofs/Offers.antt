@@ -1,8 +1,9 @@
--- What dates that match an answer tell: a refusal offers none, and a send interval's answer offers that interval.
+-- What dates that match an answer tell: a refusal offers none, and a send interval's answer offers that interval; what its number can be.
 use Prim.Native.Nat.{ℕ}
 use mathlib.Core.Bool.{true, false}
 use mathlib.Core.Path.{_≡_, refl, ap, _∙_}
 use mathlib.Core.List.{List}
+use native.Mathlib.Omega.{arith}
 use borrow.Author.Tests.{eqb-true, ne-eqb}
 use Rattle.units.specs.declared.Interval.{Interval}
 use Rattle.units.specs.declared.TxData.{TxData}
@@ -26,3 +27,11 @@ answer-sends s e None d h = absurd (no-both (both-fst _ _ h) refl)
 
 pub offers-send : (l : List DelaySegment) (send : Interval) (d : TxData) → offers (answerWith l send) d ≡ true → send ≡ d .send
 offers-send l send d h = answer-sends (send .start .0) (send .end .0) (delaysOf l (send .start .0) (send .end .0)) d h
+
+answer-number : (s e : ℕ) (x : Delays) → answerOf s e x .number ≡ 2 → ⊥
+answer-number s e (Of a b) h = omega (arith, h)
+answer-number s e None h = omega (arith, h)
+
+-- an answer to a send interval is 0 or 8
+pub answer-not-two : (l : List DelaySegment) (send : Interval) → answerWith l send .number ≡ 2 → ⊥
+answer-not-two l send h = answer-number (send .start .0) (send .end .0) (delaysOf l (send .start .0) (send .end .0)) h

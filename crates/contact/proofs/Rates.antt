@@ -19,8 +19,8 @@ use Rattle.segmentation.specs.declared.VolumeSegment.{VolumeSegment}
 use Rattle.contact.specs.declared.opening.Total.{Total}
 use Rattle.contact.specs.declared.opening.Total.the-variants.{Of, Over}
 use Rattle.contact.specs.Segments.{rateSpan, spans, covers, volumeOf}
-use Rattle.contact.specs.Open.{rateOk, totalOf, volumeOk, totalWithin}
-use Rattle.contact.specs.Granted.{Spanning, Fitting, Forward, AllFitting}
+use Rattle.contact.specs.Open.{rateOk, totalOf, volumeOk}
+use Rattle.contact.specs.Granted.{Spanning, Fitting, Forward, AllFitting, totalWithin}
 use Rattle.contact.proofs.Spans.{Inside, spans-inside, spans-rest, covers-spans}
 
 -- segments that are the window are forward

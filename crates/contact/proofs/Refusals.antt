@@ -17,7 +17,8 @@ use Rattle.segmentation.specs.declared.DelaySegment.{DelaySegment}
 use Rattle.contact.specs.declared.Opened.{Opened}
 use Rattle.contact.specs.declared.opening.Total.the-variants.{Of, Over}
 use Rattle.contact.specs.Segments.{rateSpan, covers, delaysOk, volumeOf, zeroVolume, zeroDelay}
-use Rattle.contact.specs.Open.{totalOf, volumeOk, totalWithin, contactOf, refusedContact, openContact}
+use Rattle.contact.specs.Granted.{totalWithin}
+use Rattle.contact.specs.Open.{totalOf, volumeOk, contactOf, refusedContact, openContact}
 
 -- what the total tells of its test
 over : (b : Bool) (v : Volume) → pick b (Of v) Over ≡ Over → b ≡ false

@@ -6,11 +6,13 @@ use lib.Dec.{leb, ltb, eqb}
 use lib.ListN.{take}
 use mathlib.Core.List.{map}
 use Rattle.units.specs.declared.Interval.{Interval}
-use Rattle.units.specs.Logic.{both, allOf}
+use Rattle.units.specs.Logic.{both, pick, allOf}
 use Rattle.segmentation.specs.declared.RateSegment.{RateSegment}
 use Rattle.segmentation.specs.declared.VolumeSegment.{VolumeSegment}
 use Rattle.contact.specs.Segments.{volumeSpan, spans, rateSegment, wholeOf}
-use Rattle.contact.specs.Open.{volumeOk}
+use Rattle.contact.specs.Open.{totalOf, volumeOk}
+use Rattle.contact.specs.declared.opening.Total.{Total}
+use Rattle.contact.specs.declared.opening.Total.the-variants.{Of, Over}
 
 -- the length is not negative and within its limit
 pub record Spanning (s : RateSegment) : Type 0 where
@@ -45,3 +47,7 @@ volumesOk w l =
 
 unfoldable pub countedVolumes : Interval → ℕ → List VolumeSegment → Bool
 countedVolumes w n l = both (leb 1 n) (both (leb n 16) (volumesOk w (take n l)))
+
+-- the total, where the rates are inside their limits (`total_of`)
+abbrev pub totalWithin : List RateSegment → Total
+totalWithin l = pick (volumeOk l) (Of (record { 0 = totalOf l })) Over

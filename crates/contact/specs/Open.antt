@@ -6,7 +6,7 @@ use lib.Dec.{leb}
 use lib.ListN.{take, replicate}
 use mathlib.Core.List.{map}
 use Rattle.units.specs.declared.Interval.{Interval}
-use Rattle.units.specs.Logic.{both, unless, pick, allOf}
+use Rattle.units.specs.Logic.{both, unless, allOf}
 use Rattle.units.specs.Limits.{rateMax, volumeMax, windowOk}
 use Rattle.units.specs.Answer.{interval}
 use Rattle.units.specs.Arrays.{padded}
@@ -14,8 +14,6 @@ use Rattle.segmentation.specs.declared.RateSegment.{RateSegment}
 use Rattle.segmentation.specs.declared.DelaySegment.{DelaySegment}
 use Rattle.contact.specs.declared.Contact.{Contact}
 use Rattle.contact.specs.declared.Opened.{Opened}
-use Rattle.contact.specs.declared.opening.Total.{Total}
-use Rattle.contact.specs.declared.opening.Total.the-variants.{Of, Over}
 use Rattle.contact.specs.Segments.{rateSpan, covers, delaysOk, volumeOf, zeroVolume, zeroDelay}
 
 abbrev pub rateOk : RateSegment → Bool
@@ -58,7 +56,3 @@ openContact w rates m delays k =
     (unless (volumeOk (take m rates)) (refusedContact 6)
     (unless (delaysOk w k delays) (refusedContact 5)
     (record { number = 0; total = record { 0 = totalOf (take m rates) }; contact = contactOf w rates m delays k }))))
-
--- the total, where the rates are inside their limits (`total_of`)
-abbrev pub totalWithin : List RateSegment → Total
-totalWithin l = pick (volumeOk l) (Of (record { 0 = totalOf l })) Over

@@ -13,8 +13,7 @@ ghost use lib.ListN.{take};
 ghost use mathlib.Core.List.{map};
 ghost use Rattle.units.specs.Arrays.{padded};
 ghost use Rattle.contact.specs.Segments.{rateSpan, spans, covers, volumeOf, zeroVolume, zeroDelay};
-ghost use Rattle.contact.specs.Open.{totalWithin};
-ghost use Rattle.contact.specs.Granted.{Fitting, AllFitting, Forward};
+ghost use Rattle.contact.specs.Granted.{Fitting, AllFitting, Forward, totalWithin};
 
 // The total volume of a rate list, if it and each rate are inside their limits.
 pub enum Total {

@@ -3,3 +3,4 @@ pub mod Told
 pub mod Few
 pub mod Unique
 pub mod Lengths
+pub mod Opened

@@ -13,7 +13,10 @@ use Rattle.answer.specs.Lines.{numberLine}
 use Rattle.held.specs.declared.Held.{Held}
 use Rattle.held.specs.declared.Done.{Done}
 use Rattle.frames.specs.Opening.{noFrame}
+use Rattle.frames.specs.declared.frame.Frame.{Frame}
+use Rattle.frames.specs.declared.frame.Frame.the-variants.{Wrong}
 use Rattle.frames.specs.Step.{on, changes, changeOf, showOf}
+use Rattle.frames.specs.Frame.{kindFrame}
 
 -- the table's line of another kind
 miss : {A : Type 0} (a : A) {k n : ℕ} {r e : A} → (k ≡ n → ⊥) → e ≡ r → on k n a e ≡ r
@@ -24,6 +27,17 @@ or-no : {k n : ℕ} {b : Bool} → (k ≡ n → ⊥) → b ≡ false → (eqb k 
 or-no p q = rw (ne-eqb _ _ p) q
 
 -- what the tables say of a number, or of none of theirs, they say of the kind that was read
+module _ (line : List ℕ) {k : ℕ} (read : k ≡ byteAt line 0) where
+  pub frame-as : {n : ℕ} {r : Frame} → k ≡ n → r ≡ kindFrame n line → r ≡ kindFrame (byteAt line 0) line
+  frame-as e q = q ∙ ap (λ (j : ℕ). kindFrame j line) (sym e ∙ read)
+
+  pub frame-none : (k ≡ 1 → ⊥) → (k ≡ 2 → ⊥) → (k ≡ 3 → ⊥) → (k ≡ 4 → ⊥) → (k ≡ 16 → ⊥) → (k ≡ 17 → ⊥) → (k ≡ 18 → ⊥) → (k ≡ 19 → ⊥) → (k ≡ 20 → ⊥)
+      → Wrong ≡ kindFrame (byteAt line 0) line
+  unfolding kindFrame
+  frame-none a b d e f g i j l =
+      frame-as refl
+      (sym (miss _ a (miss _ b (miss _ d (miss _ e (miss _ f (miss _ g (miss _ i (miss _ j (miss _ l refl))))))))))
+
 module _ (line : List ℕ) (h : Held) {k : ℕ} (read : k ≡ byteAt line 0) where
   of-number : {A : Type 0} (f : ℕ → A) {n : ℕ} {r : A} → k ≡ n → r ≡ f n → r ≡ f (byteAt line 0)
   of-number f e q = q ∙ ap f (sym e ∙ read)

@@ -20,20 +20,20 @@ use Rattle.frames.proofs.opening.polynomial.Kinds as opening-polynomial
 use Rattle.frames.proofs.opening.polynomial.Reads as opening-polynomial-reads
 use Rattle.frames.proofs.opening.queue.Kinds as opening-queue-kinds
 use Rattle.frames.proofs.opening.queue.Reads as opening-queue-reads
-use Rattle.frames.proofs.booking.fits.Kinds as booking-fits-kinds
-use Rattle.frames.proofs.booking.fits.Reads as booking-fits-reads
-use Rattle.frames.proofs.booking.free.Kinds as booking-free-kinds
-use Rattle.frames.proofs.booking.free.Reads as booking-free-reads
-use Rattle.frames.proofs.booking.priority.Kinds as booking-priority-kinds
-use Rattle.frames.proofs.booking.priority.Reads as booking-priority-reads
-use Rattle.frames.proofs.booking.polynomial.Kinds as booking-polynomial-kinds
-use Rattle.frames.proofs.booking.polynomial.Reads as booking-polynomial-reads
-use Rattle.frames.proofs.booking.queue.Kinds as booking-queue-kinds
-use Rattle.frames.proofs.booking.queue.Reads as booking-queue-reads
+use Rattle.frames.proofs.anew.free.Kinds as anew-free-kinds
+use Rattle.frames.proofs.anew.free.Reads as anew-free-reads
+use Rattle.frames.proofs.anew.priority.Kinds as anew-priority-kinds
+use Rattle.frames.proofs.anew.priority.Reads as anew-priority-reads
+use Rattle.frames.proofs.anew.polynomial.Kinds as anew-polynomial-kinds
+use Rattle.frames.proofs.anew.polynomial.Reads as anew-polynomial-reads
+use Rattle.frames.proofs.anew.queue.Kinds as anew-queue-kinds
+use Rattle.frames.proofs.anew.queue.Reads as anew-queue-reads
+use Rattle.frames.proofs.frame.of.Kinds as frame-of-kinds
+use Rattle.frames.proofs.frame.of.Reads as frame-of-reads
+use Rattle.frames.proofs.queueing.call.Kinds as queueing-call-kinds
+use Rattle.frames.proofs.queueing.call.Reads as queueing-call-reads
 use Rattle.frames.proofs.calls.offer.Kinds as offer-kinds
 use Rattle.frames.proofs.calls.offer.Reads as offer-reads
-use Rattle.frames.proofs.kept.offer.Kinds as kept-offer-kinds
-use Rattle.frames.proofs.kept.offer.Reads as kept-offer-reads
 use Rattle.frames.proofs.calls.book.Kinds as book-kinds
 use Rattle.frames.proofs.calls.book.Reads as book-reads
 use Rattle.frames.proofs.calls.enqueue.Kinds as enqueue-kinds
@@ -44,8 +44,6 @@ use Rattle.frames.proofs.calls.list.Kinds as list-kinds
 use Rattle.frames.proofs.calls.list.Reads as list-reads
 use Rattle.frames.proofs.show.Kinds as show-kinds
 use Rattle.frames.proofs.show.Reads as show-reads
-use Rattle.frames.proofs.kept.show.Kinds as kept-show-kinds
-use Rattle.frames.proofs.kept.show.Reads as kept-show-reads
 use Rattle.frames.proofs.step.Kinds as step-kinds
 use Rattle.frames.proofs.step.Reads as step-reads
 
@@ -71,20 +69,23 @@ module _ (κs : Lfts 1) where
   pub opening-queue-unique : (a : Dens κs opening-queue-kinds.ps) → Determined (opening-queue-reads.Post κs a)
   opening-queue-unique a r q x y f g = f ∙ sym g
 
-  pub booking-fits-unique : (a : Dens κs booking-fits-kinds.ps) → Determined (booking-fits-reads.Post κs a)
-  booking-fits-unique a r q x y f g = f ∙ sym g
+  pub frame-of-unique : (a : Dens κs frame-of-kinds.ps) → Determined (frame-of-reads.Post κs a)
+  frame-of-unique a r q x y f g = f ∙ sym g
 
-  pub booking-free-unique : (a : Dens κs booking-free-kinds.ps) → Determined (booking-free-reads.Post κs a)
-  booking-free-unique a r q x y f g = f ∙ sym g
+  pub queueing-call-unique : (a : Dens κs queueing-call-kinds.ps) → Determined (queueing-call-reads.Post κs a)
+  queueing-call-unique a r q x y f g = f ∙ sym g
 
-  pub booking-priority-unique : (a : Dens κs booking-priority-kinds.ps) → Determined (booking-priority-reads.Post κs a)
-  booking-priority-unique a r q x y f g = f ∙ sym g
+  pub anew-free-unique : (a : Dens κs anew-free-kinds.ps) → Determined (anew-free-reads.Post κs a)
+  anew-free-unique a r q x y f g = f .0 ∙ sym (g .0)
 
-  pub booking-polynomial-unique : (a : Dens κs booking-polynomial-kinds.ps) → Determined (booking-polynomial-reads.Post κs a)
-  booking-polynomial-unique a r q x y f g = f ∙ sym g
+  pub anew-priority-unique : (a : Dens κs anew-priority-kinds.ps) → Determined (anew-priority-reads.Post κs a)
+  anew-priority-unique a r q x y f g = f .0 ∙ sym (g .0)
 
-  pub booking-queue-unique : (a : Dens κs booking-queue-kinds.ps) → Determined (booking-queue-reads.Post κs a)
-  booking-queue-unique a r q x y f g = f ∙ sym g
+  pub anew-polynomial-unique : (a : Dens κs anew-polynomial-kinds.ps) → Determined (anew-polynomial-reads.Post κs a)
+  anew-polynomial-unique a r q x y f g = f .0 ∙ sym (g .0)
+
+  pub anew-queue-unique : (a : Dens κs anew-queue-kinds.ps) → Determined (anew-queue-reads.Post κs a)
+  anew-queue-unique a r q x y f g = f .0 ∙ sym (g .0)
 
   pub offer-unique : (a : Dens κs offer-kinds.ps) → Determined (offer-reads.Post κs a)
   offer-unique a r q x y f g = f ∙ sym g
@@ -97,9 +98,6 @@ module _ (κs : Lfts 1) where
 
   pub dequeue-unique : (a : Dens κs dequeue-kinds.ps) → Determined (dequeue-reads.Post κs a)
   dequeue-unique a r q x y f g = f ∙ sym g
-
-  pub kept-offer-unique : (a : Dens κs kept-offer-kinds.ps) → Determined (kept-offer-reads.Post κs a)
-  kept-offer-unique a r q x y f g = f ∙ sym g
 
 -- an answer, with what stands behind the reference at the end
 abbrev Leaves : {R X : Type 0} → (X → List ℕ) → (R → X → Type 0) → R × List ℕ → X → Type 0
@@ -122,7 +120,3 @@ module _ (κs : Lfts 2) where
   pub step-unique : (a : Dens κs step-kinds.ps)
       → Determined (Leaves (λ (s : AtExit (endedOf 2 step-kinds.ps step-kinds.r) κs). s .0 .now) (step-reads.Post κs a))
   step-unique a = named _ _ _
-
-  pub kept-show-unique : (a : Dens κs kept-show-kinds.ps)
-      → Determined (Leaves (λ (s : AtExit (endedOf 2 kept-show-kinds.ps kept-show-kinds.r) κs). s .0 .now) (kept-show-reads.Post κs a))
-  kept-show-unique a = named _ _ _

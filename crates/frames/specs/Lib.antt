@@ -1,4 +1,4 @@
 pub mod Opening
-pub mod Booking
+pub mod Frame
 pub mod Calls
 pub mod Step

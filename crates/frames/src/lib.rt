@@ -1,8 +1,9 @@
 // One line of the trace program: the frame kind decides the layout and the call; the answer's line is written, and what is held next is returned.
-pub mod booking;
+pub mod anew;
 pub mod calls;
-pub mod kept;
+pub mod frame;
 pub mod opening;
+pub mod queueing;
 
 use held::Done;
 use held::Held;

@@ -2,10 +2,6 @@
 use crate::NO_FRAME;
 use held::Done;
 use held::Held;
-use legacy::Queue;
-use poly_seg::PolySeg;
-use pseg::PrioritySeg;
-use seg::FreeVolume;
 ghost use mathlib.Core.Path.{_≡_};
 ghost use Rattle.frames.specs.Opening.{freeFrame, priorityFrame, polynomialFrame, queueFrame};
 
@@ -16,13 +12,7 @@ pub fn free(line: &[u8], held: Held) -> Done
     if !layout::opening::fits(line) {
         return held.refused(NO_FRAME);
     }
-    let f = layout::opening::read(line);
-    let window = f.window;
-    let rates = f.rates;
-    let rate_count = f.rate_count;
-    let delays = f.delays;
-    let delay_count = f.delay_count;
-    let o = FreeVolume::open(window, rates, rate_count, delays, delay_count);
+    let o = crate::anew::free(line);
     let number = o.number;
     let manager = o.manager;
     held::free::kept(held, number, manager)
@@ -35,13 +25,7 @@ pub fn priority(line: &[u8], held: Held) -> Done
     if !layout::opening::fits(line) {
         return held.refused(NO_FRAME);
     }
-    let f = layout::opening::read(line);
-    let window = f.window;
-    let rates = f.rates;
-    let rate_count = f.rate_count;
-    let delays = f.delays;
-    let delay_count = f.delay_count;
-    let o = PrioritySeg::open(window, rates, rate_count, delays, delay_count);
+    let o = crate::anew::priority(line);
     let number = o.number;
     let manager = o.manager;
     held::priority::kept(held, number, manager)
@@ -54,12 +38,7 @@ pub fn polynomial(line: &[u8], held: Held) -> Done
     if !layout::polynomial::fits(line) {
         return held.refused(NO_FRAME);
     }
-    let f = layout::polynomial::read(line);
-    let window = f.window;
-    let polynome = f.polynome;
-    let delays = f.delays;
-    let delay_count = f.delay_count;
-    let o = PolySeg::open(window, polynome, delays, delay_count);
+    let o = crate::anew::polynomial(line);
     let number = o.number;
     let manager = o.manager;
     held::polynomial::kept(held, number, manager)
@@ -72,14 +51,7 @@ pub fn queue(line: &[u8], held: Held) -> Done
     if !layout::queue::fits(line) {
         return held.refused(NO_FRAME);
     }
-    let f = layout::queue::read(line);
-    let window = f.window;
-    let rate = f.rate;
-    let delay = f.delay;
-    let classes = f.classes;
-    let flags = f.flags;
-    let budgets = f.budgets;
-    let o = Queue::open(window, rate, delay, classes, flags, budgets);
+    let o = crate::anew::queue(line);
     let number = o.number;
     let manager = o.manager;
     held::queue::kept(held, number, manager)

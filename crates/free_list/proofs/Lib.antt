@@ -7,3 +7,4 @@ pub mod CutLaws
 pub mod Places
 pub mod CutList
 pub mod Unique
+pub mod ByChoice

@@ -3,24 +3,21 @@ use Prim.Native.Nat.{ℕ, zero, suc, _+_, _-_, _<_, _≤_}
 use mathlib.Core.Bool.{true}
 use mathlib.Core.Path.{_≡_, refl, sym, ap, _∙_}
 use mathlib.Core.List.{List, [], _∷_, _++_, append-assoc}
-use mathlib.Core.Logic.{⊎-elim}
 use native.Mathlib.Numerals.{add-one}
 use native.Mathlib.Omega.{arith}
 use lib.ListN.{length, take, drop, getD, set, replicate, length-take, length-drop, length-append}
 use lib.Seq.{set-append-left, take-set-lt, take-suc-set, take-append-le, drop-append-add, getD-take, length-take-le}
-use borrow.Author.Tests.{eqb-true, lt-ltb, le-ltb, le-leb, lt-leb}
+use borrow.Author.Tests.{eqb-true, le-leb, lt-leb}
 use Rattle.units.specs.Logic.{allOf}
 use Rattle.units.specs.Arrays.{padded}
 use Rattle.units.proofs.Logic.{both-fst, both-snd, unless-go, unless-stop}
 use Rattle.units.proofs.Arrays.{take-padded}
 use Rattle.units.proofs.Padded.{padded-is, padded-set}
-use Rattle.units.proofs.Numbers.{le-or-lt}
 use Rattle.segmentation.specs.declared.VolumeSegment.{VolumeSegment}
 use Rattle.contact.specs.Segments.{zeroVolume, noVolume}
 use Rattle.free_list.specs.declared.FreeList.{FreeList}
-use Rattle.free_list.specs.declared.Cut.{Cut}
 use Rattle.free_list.specs.Cut.{restOf, stretchOf, leftOf, cutOf, listed, listIn, cutList}
-use Rattle.free_list.specs.Granted.{Inside, insertOf, storedOf, cutInTwo}
+use Rattle.free_list.specs.Granted.{Inside, insertOf, leftIn}
 use Rattle.free_list.proofs.CutLaws.{left-start, left-flat, left-two}
 
 zero-segment : (a b v : ℕ) → a ≡ 0 → b ≡ 0 → v ≡ 0
@@ -65,7 +62,7 @@ cut-at l [] i s e v h = absurd (omega arith)
 cut-at l (g ∷ f) zero s e v h = refl
 cut-at l (g ∷ f) (suc i) s e v h = ap (λ (x : List VolumeSegment). g ∷ x) (cut-at l f i s e v (omega arith))
 
--- The cut list in each of its three ways, and how long it is.
+-- The cut list in each of its three ways, and how long it is in two.
 module _ (l f : List VolumeSegment) (i s e v : ℕ) (lt : i < length f) where
   abbrev g : VolumeSegment
   g = getD f i zeroVolume
@@ -76,15 +73,9 @@ module _ (l f : List VolumeSegment) (i s e v : ℕ) (lt : i < length f) where
   pub cut-start : g .start .0 ≡ s → cutOf l f i s e v ≡ take i f ++ (restOf g e v ∷ drop (suc i) f)
   cut-start h = cut-at l f i s e v lt ∙ ap (λ (k : List VolumeSegment). take i f ++ k) (left-start l g s e v (drop (suc i) f) h)
 
-  pub cut-start-length : g .start .0 ≡ s → length (cutOf l f i s e v) ≡ length f
-  cut-start-length h = ap length (cut-start h) ∙ one-length (restOf g e v)
-
   module _ (h : g .start .0 ≡ s → ⊥) where
     pub cut-flat : s ≡ e → cutOf l f i s e v ≡ take i f ++ (stretchOf l (g .start .0) s ∷ drop (suc i) f)
     cut-flat k = cut-at l f i s e v lt ∙ ap (λ (k : List VolumeSegment). take i f ++ k) (left-flat l g s e v (drop (suc i) f) h k)
-
-    pub cut-flat-length : s ≡ e → length (cutOf l f i s e v) ≡ length f
-    cut-flat-length k = ap length (cut-flat k) ∙ one-length (stretchOf l (g .start .0) s)
 
     pub cut-two : (s ≡ e → ⊥)
         → cutOf l f i s e v ≡ take i f ++ (stretchOf l (g .start .0) s ∷ (stretchOf l e (g .end .0) ∷ drop (suc i) f))
@@ -103,18 +94,7 @@ module _ (l : List VolumeSegment) (r : FreeList) (i s e v : ℕ) where
   unfolding cutList
   cut-full h = unless-stop _ _ _ (lt-leb _ _ h)
 
-module _ (r : FreeList) (i : ℕ) (a b : VolumeSegment) where
-  pub two-full : 64 ≤ r .count → cutInTwo r i a b ≡ record { number = 10; list = r }
-  unfolding cutInTwo
-  two-full h = unless-stop _ _ _ (le-ltb _ _ h)
-
-  pub two-done : r .count < 64
-      → cutInTwo r i a b ≡ record { number = 0; list = record { segments = set (insertOf (r .segments) (r .count) (i + 1) b) i a; count = r .count + 1 } }
-  unfolding cutInTwo
-  two-done h = unless-go _ _ _ (lt-ltb _ _ h)
-
-made : (a b : List VolumeSegment) (n m : ℕ) → a ≡ b → n ≡ m
-    → _≡_ {A = Cut} (record { number = 0; list = record { segments = a; count = n } }) (record { number = 0; list = record { segments = b; count = m } })
+made : (a b : List VolumeSegment) (n m : ℕ) → a ≡ b → n ≡ m → leftIn a n ≡ leftIn b m
 made a b n m h k = rw (h, k)
 
 -- The stores of a cut in a record are the cut of its list.
@@ -138,40 +118,43 @@ module _ (l : List VolumeSegment) (r : FreeList) (i s e v : ℕ) (size : length 
   here = getD-take (r .count) (r .segments) i zeroVolume at
 
   stored-is : (x : VolumeSegment) → cutOf l (listed r) i s e v ≡ take i (listed r) ++ (x ∷ drop (suc i) (listed r))
-      → storedOf r i x ≡ cutList l r i s e v
+      → leftIn (set (r .segments) i x) (r .count) ≡ cutList l r i s e v
   stored-is x h =
       let len : length (cutOf l (listed r) i s e v) ≡ length (listed r) = ap length h ∙ one-length l (listed r) i s e v in-list x in
       made _ _ _ _ (ap (λ (a : List VolumeSegment). set a i x) whole ∙ padded-set 64 zeroVolume (listed r) i x in-list ∙ ap (padded 64 zeroVolume) (sym h))
       (omega (arith, len, listed-length))
       ∙ sym (cut-done l r i s e v (omega (arith, len, listed-length, few)))
 
-  two-is : (x y : VolumeSegment) → cutOf l (listed r) i s e v ≡ take i (listed r) ++ (x ∷ (y ∷ drop (suc i) (listed r)))
-      → length (cutOf l (listed r) i s e v) ≡ suc (length (listed r)) → cutInTwo r i x y ≡ cutList l r i s e v
-  two-is x y h len =
-      ⊎-elim
-      (λ (full : 64 ≤ r .count). two-full r i x y full ∙ sym (cut-full l r i s e v (omega (arith, len, listed-length))))
-      (λ (room : r .count < 64).
+  two-is : (x y : VolumeSegment) → r .count < 64 → cutOf l (listed r) i s e v ≡ take i (listed r) ++ (x ∷ (y ∷ drop (suc i) (listed r)))
+      → length (cutOf l (listed r) i s e v) ≡ suc (length (listed r))
+      → leftIn (set (insertOf (r .segments) (r .count) (i + 1) y) i x) (r .count + 1) ≡ cutList l r i s e v
+  two-is x y room h len =
       let two : set (insertOf (r .segments) (r .count) (i + 1) y) i x ≡ padded 64 zeroVolume (cutOf l (listed r) i s e v)
       = ap (λ (a : List VolumeSegment). set (insertOf a (r .count) (i + 1) y) i x) whole
       ∙ ap (λ (n : ℕ). set (insertOf (padded 64 zeroVolume (listed r)) n (i + 1) y) i x) (sym listed-length)
       ∙ padded-two 64 zeroVolume (listed r) i x y in-list (omega (arith, listed-length))
       ∙ ap (padded 64 zeroVolume) (sym h) in
-      two-done r i x y room
-      ∙ made _ _ _ _ two (omega (arith, len, listed-length))
-      ∙ sym (cut-done l r i s e v (omega (arith, len, listed-length))))
-      (le-or-lt 64 (r .count))
+      made _ _ _ _ two (omega (arith, len, listed-length))
+      ∙ sym (cut-done l r i s e v (omega (arith, len, listed-length)))
 
   abbrev seg : VolumeSegment
   seg = getD (r .segments) i zeroVolume
 
-  pub book-start : seg .start .0 ≡ s → storedOf r i (restOf seg e v) ≡ cutList l r i s e v
+  pub book-start : seg .start .0 ≡ s → leftIn (set (r .segments) i (restOf seg e v)) (r .count) ≡ cutList l r i s e v
   book-start h = rw (← here) (stored-is _ (cut-start l (listed r) i s e v in-list (rw here h)))
 
   module _ (h : seg .start .0 ≡ s → ⊥) where
-    pub book-flat : s ≡ e → storedOf r i (stretchOf l (seg .start .0) s) ≡ cutList l r i s e v
+    pub book-flat : s ≡ e → leftIn (set (r .segments) i (stretchOf l (seg .start .0) s)) (r .count) ≡ cutList l r i s e v
     book-flat k = rw (← here) (stored-is _ (cut-flat l (listed r) i s e v in-list (rw here h) k))
 
-    pub book-two : (s ≡ e → ⊥) → cutInTwo r i (stretchOf l (seg .start .0) s) (stretchOf l e (seg .end .0)) ≡ cutList l r i s e v
-    book-two k =
-        rw (← here)
-        (two-is _ _ (cut-two l (listed r) i s e v in-list (rw here h) k) (cut-two-length l (listed r) i s e v in-list (rw here h) k))
+    module _ (k : s ≡ e → ⊥) where
+      two-length : length (cutOf l (listed r) i s e v) ≡ suc (length (listed r))
+      two-length = cut-two-length l (listed r) i s e v in-list (rw here h) k
+
+      pub book-full : 64 ≤ r .count → record { number = 10; list = r } ≡ cutList l r i s e v
+      book-full full = sym (cut-full l r i s e v (omega (arith, two-length, listed-length)))
+
+      pub book-two : r .count < 64
+          → leftIn (set (insertOf (r .segments) (r .count) (i + 1) (stretchOf l e (seg .end .0))) i (stretchOf l (seg .start .0) s)) (r .count + 1)
+          ≡ cutList l r i s e v
+      book-two room = rw (← here) (two-is _ _ room (cut-two l (listed r) i s e v in-list (rw here h) k) two-length)

@@ -15,8 +15,9 @@ use Rattle.free_list.proofs.find_offer.Reads as find-offer-reads
 use Rattle.free_list.proofs.insert.Reads as insert-reads
 use Rattle.free_list.proofs.rest.Reads as rest-reads
 use Rattle.free_list.proofs.stretch.Reads as stretch-reads
-use Rattle.free_list.proofs.FreeList.stored.Reads as stored-reads
-use Rattle.free_list.proofs.FreeList.cut_in_two.Reads as cut-in-two-reads
+use Rattle.free_list.proofs.Chosen.refused.Reads as refused-reads
+use Rattle.free_list.proofs.FreeList.nothing.Reads as nothing-reads
+use Rattle.free_list.proofs.FreeList.whole.Reads as whole-reads
 use Rattle.free_list.proofs.FreeList.cut.Reads as cut-reads
 use Rattle.free_list.proofs.walk.begin.Reads as begin-reads
 use Rattle.free_list.proofs.walk.piece.Reads as piece-reads
@@ -44,16 +45,18 @@ rest-unique s end size r q x y f g = f ∙ sym g
 pub stretch-unique : (rates : List VolumeSegment) (m : ℕ) (start end : Date) → Determined (stretch-reads.Post tt (rates, (m, (start, (end, tt)))))
 stretch-unique rates m start end r q x y f g = f ∙ sym g
 
-module _ (self : FreeList) where
-  pub stored-unique : (place : ℕ) (s : VolumeSegment) → Determined (stored-reads.Post tt (self, (place, (s, tt))))
-  stored-unique place s r q x y f g = f ∙ sym g
+pub refused-unique : (number : ℕ) → Determined (refused-reads.Post tt (number, tt))
+refused-unique number r q x y f g = f ∙ sym g
 
-  pub cut-in-two-unique : (place : ℕ) (left right : VolumeSegment) → Determined (cut-in-two-reads.Post tt (self, (place, (left, (right, tt)))))
-  cut-in-two-unique place left right r q x y f g = f ∙ sym g
+pub nothing-unique : Determined (nothing-reads.Post tt tt)
+nothing-unique r q x y f g = f ∙ sym g
 
-  pub cut-unique : (rates : List VolumeSegment) (m place : ℕ) (send : Interval) (size : Volume)
-      → Determined (cut-reads.Post tt (self, (rates, (m, (place, (send, (size, tt)))))))
-  cut-unique rates m place send size r q x y f g = f ∙ sym g
+pub whole-unique : (window : Interval) (total : Volume) → Determined (whole-reads.Post tt (window, (total, tt)))
+whole-unique window total r q x y f g = f ∙ sym g
+
+pub cut-unique : (self : FreeList) (rates : List VolumeSegment) (m place : ℕ) (send : Interval) (size : Volume)
+    → Determined (cut-reads.Post tt (self, (rates, (m, (place, (send, (size, tt)))))))
+cut-unique self rates m place send size r q x y f g = f ∙ sym g
 
 pub begin-unique : (s : VolumeSegment) (low : Date) → Determined (begin-reads.Post tt (s, (low, tt)))
 begin-unique s low r q x y f g = f ∙ sym g

@@ -1,19 +1,25 @@
 -- What inner functions take for granted or compute on the way. No promise of a public call rests on it.
 use Prim.Native.Nat.{ℕ, _+_, _-_, _*_, _<_, _≤_, _^_, min, max}
-use mathlib.Core.Bool.{true}
+use mathlib.Core.Bool.{Bool, true}
 use mathlib.Core.Path.{_≡_}
 use mathlib.Core.List.{List, _∷_, _++_}
 use lib.Dec.{ltb}
-use lib.ListN.{take, drop, getD, set}
+use lib.ListN.{take, drop, getD}
 use Rattle.units.specs.declared.Date.{Date}
 use Rattle.units.specs.Logic.{pick, unless, allOf}
+use Rattle.segmentation.specs.declared.DelaySegment.{DelaySegment}
+use Rattle.segmentation.specs.Delay.{answerWith}
 use Rattle.segmentation.specs.declared.VolumeSegment.{VolumeSegment}
 use Rattle.segmentation.specs.Capacity.{rateOf}
 use Rattle.segmentation.specs.End.{closeOf}
 use Rattle.segmentation.specs.Granted.{Run}
 use Rattle.contact.specs.Segments.{zeroVolume, noVolume}
 use Rattle.free_list.specs.declared.FreeList.{FreeList}
+use Rattle.units.specs.Answer.{refused}
 use Rattle.free_list.specs.declared.Cut.{Cut}
+use Rattle.free_list.specs.declared.Chosen.{Chosen}
+use Rattle.free_list.specs.declared.Found.{Found}
+use Rattle.free_list.specs.declared.Found.the-variants.{At, None}
 use Rattle.free_list.specs.declared.walk.Walk.{Walk}
 use Rattle.free_list.specs.declared.walk.Taken.{Taken}
 use Rattle.free_list.specs.declared.walk.Taken.the-variants.{Go, No}
@@ -34,13 +40,21 @@ pub record Inside (r : FreeList) (place v : ℕ) : Type 0 where
 abbrev pub insertOf : {A : Type 0} → List A → ℕ → ℕ → A → List A
 insertOf l n i a = take i l ++ (a ∷ (drop i (take n l) ++ drop (n + 1) l))
 
-abbrev pub storedOf : FreeList → ℕ → VolumeSegment → Cut
-storedOf r i s = record { number = 0; list = record { segments = set (r .segments) i s; count = r .count } }
+abbrev pub leftIn : List VolumeSegment → ℕ → Cut
+leftIn l n = record { number = 0; list = record { segments = l; count = n } }
 
-unfoldable pub cutInTwo : FreeList → ℕ → VolumeSegment → VolumeSegment → Cut
-cutInTwo r i a b =
-    unless (ltb (r .count) 64) (record { number = 10; list = r })
-    (record { number = 0; list = record { segments = set (insertOf (r .segments) (r .count) (i + 1) b) i a; count = r .count + 1 } })
+-- a dry run that finds nothing
+abbrev pub noneChosen : ℕ → Chosen
+noneChosen k = record { offer = refused k; place = 0 }
+
+-- what was found, as a dry run's answer with these delays and its place
+abbrev pub chosenAt : List DelaySegment → Found → Chosen
+chosenAt l (At i send) = record { offer = answerWith l send; place = i }
+chosenAt l None = noneChosen 7
+
+-- what a dry run finds, by its bundle's test
+abbrev pub chosenIn : Bool → List DelaySegment → Found → Chosen
+chosenIn fits l f = unless fits (noneChosen 2) (chosenAt l f)
 
 -- the walk's numbers fit
 pub record WalkOk (w : Walk) : Type 0 where

@@ -4,6 +4,7 @@ use segmentation::RateSegment;
 use segmentation::VolumeSegment;
 use units::Date;
 use units::Interval;
+use units::Offer;
 use units::Volume;
 ghost use mathlib.Core.Path.{_≡_};
 ghost use mathlib.Core.Bool.{true};
@@ -17,7 +18,7 @@ ghost use Rattle.contact.specs.Segments.{noVolume};
 ghost use Rattle.free_list.specs.Listed.{listOk};
 ghost use Rattle.free_list.specs.Offer.{offerOf, endIn};
 ghost use Rattle.free_list.specs.Cut.{restOf, stretchOf, cutList, listIn, wholeWindow};
-ghost use Rattle.free_list.specs.Granted.{Inside, insertOf, storedOf, cutInTwo};
+ghost use Rattle.free_list.specs.Granted.{Inside, insertOf, leftIn, noneChosen};
 
 pub mod walk;
 
@@ -36,10 +37,28 @@ pub enum Found {
     None,
 }
 
+// What a dry run finds: its answer, and the place of the listed segment behind it, 0 on a refusal.
+pub struct Chosen {
+    pub offer: Offer,
+    pub place: usize,
+}
+
 // A cut's answer: 0 and the list that is left, or 10 and the list as it came.
 pub struct Cut {
     pub number: u8,
     pub list: FreeList,
+}
+
+impl Chosen {
+    pub fn refused(number: u8) -> Chosen
+        ensures { λ r. ⌜ r ≡ noneChosen number ⌝ }
+    {
+        let offer = Offer::refused(number);
+        Chosen {
+            offer: offer,
+            place: 0,
+        }
+    }
 }
 
 // Is nothing in the places from the count on?
@@ -205,48 +224,20 @@ impl FreeList {
         }
     }
 
-    // The list with another segment at a place.
-    pub fn stored(self, place: usize, s: VolumeSegment) -> Cut
-        requires { ⌜ place < 64 ⌝ }
-        ensures { λ r. ⌜ r ≡ storedOf self place s ⌝ }
+    // A list after a cut.
+    fn left(segments: [VolumeSegment; FreeList::COUNT_MAX], count: usize) -> Cut
+        ensures { λ r. ⌜ r ≡ leftIn segments count ⌝ }
     {
-        let n = self.count;
-        let mut a = self.segments;
-        a[place] = s;
         Cut {
             number: 0,
             list: FreeList {
-                segments: a,
-                count: n,
+                segments: segments,
+                count: count,
             },
         }
     }
 
-    // The list with a segment at a place cut in two; 10 where there is no room for one more.
-    pub fn cut_in_two(self, place: usize, left: VolumeSegment, right: VolumeSegment) -> Cut
-        requires { ⌜ (place < self .count) × (self .count ≤ 64) ⌝ }
-        ensures { λ r. ⌜ r ≡ cutInTwo self place left right ⌝ }
-    {
-        let n = self.count;
-        if FreeList::COUNT_MAX <= n {
-            return Cut {
-                number: units::refusal::FULL,
-                list: self,
-            };
-        }
-        let old = self.segments;
-        let mut a = insert(old, n, place + 1, right);
-        a[place] = left;
-        Cut {
-            number: 0,
-            list: FreeList {
-                segments: a,
-                count: n + 1,
-            },
-        }
-    }
-
-    // schedule_tx: what a booking leaves of the list.
+    // schedule_tx: what a booking leaves of the list; 10 where there is no room for one more. One array is changed where it is, since each copy costs.
     pub fn cut(
         self,
         rates: [VolumeSegment; RateSegment::COUNT_MAX],
@@ -260,18 +251,29 @@ impl FreeList {
     {
         let from = send.start;
         let to = send.end;
-        let segments = self.segments;
-        let g = segments[place];
+        let n = self.count;
+        let mut a = self.segments;
+        let g = a[place];
         let start = g.start;
         let end = g.end;
         if start.0 == from.0 {
-            return self.stored(place, rest(g, to, size));
+            a[place] = rest(g, to, size);
+            return FreeList::left(a, n);
         }
-        let left = stretch(rates, m, start, from);
+        let before = stretch(rates, m, start, from);
         if from.0 == to.0 {
-            return self.stored(place, left);
+            a[place] = before;
+            return FreeList::left(a, n);
         }
-        let right = stretch(rates, m, to, end);
-        self.cut_in_two(place, left, right)
+        if FreeList::COUNT_MAX <= n {
+            return Cut {
+                number: units::refusal::FULL,
+                list: self,
+            };
+        }
+        let after = stretch(rates, m, to, end);
+        let mut b = insert(a, n, place + 1, after);
+        b[place] = before;
+        FreeList::left(b, n + 1)
     }
 }

@@ -21,8 +21,6 @@ use Rattle.held.proofs.queue.kept.Reads as queue-kept-reads
 use Rattle.held.proofs.Held.nothing.Reads as nothing-reads
 use Rattle.held.proofs.Held.refused.Reads as refused-reads
 use Rattle.held.proofs.Held.dry_run.Reads as dry-run-reads
-use Rattle.held.proofs.Held.dry_run_kept.Reads as dry-run-kept-reads
-use Rattle.held.proofs.Held.ok.Reads as ok-reads
 use Rattle.held.proofs.Held.book.Reads as book-reads
 use Rattle.held.proofs.Held.enqueue.Reads as enqueue-reads
 use Rattle.held.proofs.Held.dequeue.Reads as dequeue-reads
@@ -69,9 +67,3 @@ module _ (self : Held) where
 
   pub dequeue-unique : (b : Bundle) → Determined (dequeue-reads.Post tt (self, (b, tt)))
   dequeue-unique b r q x y f g = f ∙ sym g
-
-  pub ok-unique : Determined (ok-reads.Post tt (self, tt))
-  ok-unique r q x y f g = f ∙ sym g
-
-  pub dry-run-kept-unique : (at : Date) (b : Bundle) → Determined (dry-run-kept-reads.Post tt (self, (at, (b, tt))))
-  dry-run-kept-unique at b r q x y f g = f ∙ sym g

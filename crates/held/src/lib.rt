@@ -13,9 +13,7 @@ use units::Date;
 use units::Offer;
 use units::TxData;
 ghost use mathlib.Core.Path.{_≡_};
-ghost use mathlib.Core.Bool.{true};
 ghost use Rattle.held.specs.State.{nothing, refusedCall};
-ghost use Rattle.held.specs.Rules.{heldOk};
 ghost use Rattle.held.specs.Calls.{dryRunHeld, bookHeld, enqueueHeld, dequeueHeld};
 
 // Whose record is held.
@@ -67,59 +65,6 @@ impl Held {
         Done {
             number: number,
             held: self,
-        }
-    }
-
-    // Does the record keep its manager's rules?
-    pub fn ok(self) -> bool
-        ensures { λ r. ⌜ r ≡ heldOk self ⌝ }
-    {
-        let kind = self.kind;
-        match kind {
-            Kind::Nothing => true,
-            Kind::Free => {
-                let r = self.free;
-                r.ok()
-            }
-            Kind::Priority => {
-                let r = self.priority;
-                r.ok()
-            }
-            Kind::Polynomial => {
-                let r = self.polynomial;
-                r.ok()
-            }
-            Kind::Queue => {
-                let r = self.queue;
-                r.ok()
-            }
-        }
-    }
-
-    // The dry run on a record that keeps them, without testing it again.
-    pub fn dry_run_kept(self, at: Date, bundle: Bundle) -> Offer
-        requires { ⌜ heldOk self ≡ true ⌝ }
-        ensures { λ r. ⌜ r ≡ dryRunHeld self at bundle ⌝ }
-    {
-        let kind = self.kind;
-        match kind {
-            Kind::Nothing => Offer::refused(units::refusal::RECORD),
-            Kind::Free => {
-                let r = self.free;
-                r.dry_run_kept(at, bundle)
-            }
-            Kind::Priority => {
-                let r = self.priority;
-                r.dry_run_kept(at, bundle)
-            }
-            Kind::Polynomial => {
-                let r = self.polynomial;
-                r.dry_run_kept(at, bundle)
-            }
-            Kind::Queue => {
-                let r = self.queue;
-                r.dry_run_kept(at, bundle)
-            }
         }
     }
 

@@ -3,9 +3,9 @@ use Prim.Native.Nat.{ℕ, _+_, _-_, _%_, _<_, _≤_, _^_}
 use mathlib.Core.Bool.{Bool, true, false, _||_}
 use mathlib.Core.Path.{_≡_, sym, ap₂, _∙_}
 use native.Mathlib.Omega.{arith}
-use lib.Dec.{ltb}
-use borrow.Author.Tests.{ltb-true, lt-ltb, le-ltb, leb-true, le-leb, lt-leb}
-use Rattle.units.proofs.Logic.{both-go, both-fst, both-snd, both-yes, same-test}
+use lib.Dec.{leb, ltb}
+use borrow.Author.Tests.{ltb-true, lt-ltb, le-ltb, leb-true, leb-false, le-leb, lt-leb}
+use Rattle.units.proofs.Logic.{both-go, both-fst, both-snd, both-yes, same-test, pick-keeps}
 use Rattle.units.proofs.Choice.{pick-yes, pick-no}
 use Rattle.hex.specs.Digits.{within, isDigit, valueOf}
 
@@ -43,6 +43,23 @@ module _ (x : ℕ) where
   pub value-letter : 97 ≤ x → x ≤ 102 → valueOf x ≡ x - 87
   unfolding valueOf
   value-letter h k = pick-yes _ _ _ (digit-letter h k) ∙ pick-no _ _ _ (lt-leb x 57 (omega arith))
+
+  -- a digit past 9 is at most f
+  letter-last : 57 < x → isDigit x ≡ true → x ≤ 102
+  unfolding isDigit
+  letter-last h d =
+      leb-true x 102 (both-snd _ _ (rw (within-above 48 57 x (omega arith) h) at d))
+
+  -- a value is below 16
+  pub value-small : valueOf x < 16
+  unfolding valueOf
+  value-small =
+      pick-keeps (λ (v : ℕ). v < 16) (isDigit x) _ 0
+      (λ d.
+      pick-keeps (λ (v : ℕ). v < 16) (leb x 57) _ _
+      (λ e. let h : x ≤ 57 = leb-true x 57 e in omega arith)
+      (λ e. let h : 57 < x = leb-false x 57 e in omega (arith, letter-last h d)))
+      (λ d. omega arith)
 
   -- r and s are x with the ranges' first bytes taken off, m and n the ranges' lengths
   module _ (r s m n : ℕ) (decimal : (r + 48) % 2 ^ 8 ≡ x) (letter : (s + 97) % 2 ^ 8 ≡ x) (fit : r < 256) (fits : s < 256) (ten : m ≡ 10) (six : n ≡ 6) where

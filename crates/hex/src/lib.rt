@@ -1,10 +1,13 @@
 // A line of lower-case hexadecimal, read by position. A wrong digit and a place past the end count 0: every line is read, and `clean` tells a wrong one.
 ghost use mathlib.Core.Path.{_≡_};
+ghost use mathlib.Core.Bool.{true};
 ghost use Prim.Native.Nat.{_+_, _/_, _<_, _≤_, _^_};
+ghost use Rattle.units.specs.Logic.{allOf};
 ghost use lib.IntN.{negsuc};
 ghost use lib.ListN.{length};
 ghost use Rattle.hex.specs.Digits.{isDigit, valueOf, cleanOf, byteAt};
-ghost use Rattle.hex.specs.Numbers.{wordAt, numberAt, signedOf};
+ghost use Rattle.hex.specs.Numbers.{numberAt, signedOf};
+ghost use Rattle.hex.specs.Granted.{small, valuesOf, foldedOf};
 
 // A byte of a range is below the range's length once its first byte is taken off, and no other byte is: one test a range.
 fn is_digit(byte: u8) -> bool
@@ -63,34 +66,32 @@ pub fn byte_at(line: &[u8], at: usize) -> u8
     inside(line, at)
 }
 
-fn pair_at(line: &[u8], at: usize) -> u64
-    requires { ⌜ at + 2 < 2 ^ 64 ⌝ }
-    ensures { λ r. ⌜ r ≡ wordAt 2 (now (line .entry)) at ⌝ ∗ ⌜ r < 65536 ⌝ }
+// The values of n digits from a place on, and 0 after them. The count is no constant, so that all digits are read at a time.
+fn values(line: &[u8], from: usize, n: usize) -> [u8; 16]
+    requires { ⌜ n ≤ 16 ⌝ ∗ ⌜ from + n ≤ length (now line) ⌝ }
+    ensures { λ r. ⌜ r ≡ valuesOf (now (line .entry)) from n ⌝ }
 {
-    let high = byte_at(line, at);
-    let low = byte_at(line, at + 1);
-    256 * (high as u64) + (low as u64)
+    let mut digits = [0u8; 16];
+    let mut i: usize = 0;
+    while i < n {
+        let x = line[from + i];
+        let v = value(x);
+        digits[i] = v;
+        i += 1;
+    }
+    digits
 }
 
-fn quad_at(line: &[u8], at: usize) -> u64
-    requires { ⌜ at + 4 < 2 ^ 64 ⌝ }
-    ensures { λ r. ⌜ r ≡ wordAt 4 (now (line .entry)) at ⌝ ∗ ⌜ r < 4294967296 ⌝ }
-{
-    let high = pair_at(line, at);
-    let low = pair_at(line, at + 2);
-    65536 * high + low
-}
-
-// The number of the 8 bytes from a place on, all of which the line has.
-fn whole_at(line: &[u8], at: usize) -> u64
-    requires { ⌜ at + 8 ≤ length (now line) / 2 ⌝ }
-    ensures { λ r. ⌜ r ≡ wordAt 8 (now (line .entry)) at ⌝ }
+// The number of 16 digits, the first the highest.
+fn folded(digits: [u8; 16]) -> u64
+    requires { ⌜ allOf small digits ≡ true ⌝ }
+    ensures { λ r. ⌜ r ≡ foldedOf digits ⌝ }
 {
     let mut n = 0;
     let mut i: usize = 0;
-    while i < 8 {
-        let b = inside(line, at + i);
-        n = 256 * n + (b as u64);
+    while i < 16 {
+        let v = digits[i];
+        n = 16 * n + (v as u64);
         i += 1;
     }
     n
@@ -100,15 +101,13 @@ fn whole_at(line: &[u8], at: usize) -> u64
 pub fn number_at(line: &[u8], at: usize) -> u64
     ensures { λ r. ⌜ r ≡ numberAt (now (line .entry)) at ⌝ }
 {
-    if line.len() / 2 <= at {
+    let bytes = line.len() / 2;
+    if bytes <= at {
         return 0;
     }
-    if 8 <= line.len() / 2 - at {
-        return whole_at(line, at);
-    }
-    let high = quad_at(line, at);
-    let low = quad_at(line, at + 4);
-    4294967296 * high + low
+    let left = bytes - at;
+    let n = if left < 8 { 2 * left } else { 16 };
+    folded(values(line, 2 * at, n))
 }
 
 // -1 - m, for which the bits of m are all turned.

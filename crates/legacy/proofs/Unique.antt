@@ -40,8 +40,12 @@ use Rattle.legacy.proofs.Queue.book_kept.Kinds as book-kept-kinds
 use Rattle.legacy.proofs.Queue.book_kept.Reads as book-kept-reads
 use Rattle.legacy.proofs.Queue.book.Kinds as book-kinds
 use Rattle.legacy.proofs.Queue.book.Reads as book-reads
+use Rattle.legacy.proofs.Queue.enqueue_kept.Kinds as enqueue-kept-kinds
+use Rattle.legacy.proofs.Queue.enqueue_kept.Reads as enqueue-kept-reads
 use Rattle.legacy.proofs.Queue.enqueue.Kinds as enqueue-kinds
 use Rattle.legacy.proofs.Queue.enqueue.Reads as enqueue-reads
+use Rattle.legacy.proofs.Queue.dequeue_kept.Kinds as dequeue-kept-kinds
+use Rattle.legacy.proofs.Queue.dequeue_kept.Reads as dequeue-kept-reads
 use Rattle.legacy.proofs.Queue.dequeue.Kinds as dequeue-kinds
 use Rattle.legacy.proofs.Queue.dequeue.Reads as dequeue-reads
 use Rattle.legacy.proofs.Queue.list.Kinds as list-kinds
@@ -86,11 +90,23 @@ pub book-unique : (self : Queue) (at : Date) (b : Bundle) (d : TxData) (s s′ :
     → r ≡ q
 book-unique self at b d s s′ r q h k = h ∙ sym k
 
+pub enqueue-kept-unique : (self : Queue) (b : Bundle) (s s′ : AtExit (endedOf 0 enqueue-kept-kinds.ps enqueue-kept-kinds.r) tt) (r q : Booked)
+    → enqueue-kept-reads.Post tt (self, (b, tt)) r s
+    → enqueue-kept-reads.Post tt (self, (b, tt)) q s′
+    → r ≡ q
+enqueue-kept-unique self b s s′ r q h k = h ∙ sym k
+
 pub enqueue-unique : (self : Queue) (b : Bundle) (s s′ : AtExit (endedOf 0 enqueue-kinds.ps enqueue-kinds.r) tt) (r q : Booked)
     → enqueue-reads.Post tt (self, (b, tt)) r s
     → enqueue-reads.Post tt (self, (b, tt)) q s′
     → r ≡ q
 enqueue-unique self b s s′ r q h k = h ∙ sym k
+
+pub dequeue-kept-unique : (self : Queue) (b : Bundle) (s s′ : AtExit (endedOf 0 dequeue-kept-kinds.ps dequeue-kept-kinds.r) tt) (r q : Booked)
+    → dequeue-kept-reads.Post tt (self, (b, tt)) r s
+    → dequeue-kept-reads.Post tt (self, (b, tt)) q s′
+    → r ≡ q
+dequeue-kept-unique self b s s′ r q h k = h ∙ sym k
 
 pub dequeue-unique : (self : Queue) (b : Bundle) (s s′ : AtExit (endedOf 0 dequeue-kinds.ps dequeue-kinds.r) tt) (r q : Booked)
     → dequeue-reads.Post tt (self, (b, tt)) r s

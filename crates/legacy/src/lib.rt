@@ -385,13 +385,11 @@ impl Queue {
         self.book_kept(at, bundle, dates)
     }
 
-    // manual_enqueue: 1, 2, 12, 13.
-    pub fn enqueue(self, bundle: Bundle) -> Booked
+    // manual_enqueue on a record that keeps its rules.
+    pub fn enqueue_kept(self, bundle: Bundle) -> Booked
+        requires { ⌜ recordOk self ≡ true ⌝ }
         ensures { λ r. ⌜ r ≡ enqueueOf self bundle ⌝ }
     {
-        if !self.ok() {
-            return self.refused_queueing(units::refusal::RECORD);
-        }
         if !bundle.ok() {
             return self.refused_queueing(units::refusal::BUNDLE);
         }
@@ -403,13 +401,21 @@ impl Queue {
         self.put(bundle)
     }
 
-    // manual_dequeue: 1, 2, 12, 13.
-    pub fn dequeue(self, bundle: Bundle) -> Booked
-        ensures { λ r. ⌜ r ≡ dequeueOf self bundle ⌝ }
+    // manual_enqueue: 1, 2, 12, 13.
+    pub fn enqueue(self, bundle: Bundle) -> Booked
+        ensures { λ r. ⌜ r ≡ enqueueOf self bundle ⌝ }
     {
         if !self.ok() {
             return self.refused_queueing(units::refusal::RECORD);
         }
+        self.enqueue_kept(bundle)
+    }
+
+    // manual_dequeue on a record that keeps its rules.
+    pub fn dequeue_kept(self, bundle: Bundle) -> Booked
+        requires { ⌜ recordOk self ≡ true ⌝ }
+        ensures { λ r. ⌜ r ≡ dequeueOf self bundle ⌝ }
+    {
         if !bundle.ok() {
             return self.refused_queueing(units::refusal::BUNDLE);
         }
@@ -419,6 +425,16 @@ impl Queue {
             return self.refused_queueing(units::refusal::SELF_UPDATE);
         }
         self.pull(bundle)
+    }
+
+    // manual_dequeue: 1, 2, 12, 13.
+    pub fn dequeue(self, bundle: Bundle) -> Booked
+        ensures { λ r. ⌜ r ≡ dequeueOf self bundle ⌝ }
+    {
+        if !self.ok() {
+            return self.refused_queueing(units::refusal::RECORD);
+        }
+        self.dequeue_kept(bundle)
     }
 
     // The class count and each class's queue: 1.

@@ -1,94 +1,30 @@
--- Each call, refusal by refusal: what its definition answers where a test is known.
-use Prim.Native.Nat.{ℕ}
-use mathlib.Core.Bool.{true, false}
+-- Each call by what its tests tell: the dry run is what is chosen, and a booking goes by that answer.
+use Prim.Native.Nat.{ℕ, _≤_}
+use mathlib.Core.Bool.{Bool, true, false}
 use mathlib.Core.Path.{_≡_, refl, sym, ap, _∙_}
-use mathlib.Core.List.{List, [], _∷_}
-use native.Mathlib.Omega.{arith}
-use lib.Dec.{eqb}
-use lib.ListN.{take}
-use borrow.Author.Tests.{eq-eqb, ne-eqb}
+use mathlib.Core.List.{[]}
 use Rattle.units.specs.declared.Date.{Date}
-use Rattle.units.specs.declared.Interval.{Interval}
 use Rattle.units.specs.declared.TxData.{TxData}
 use Rattle.units.specs.declared.Bundle.{Bundle}
 use Rattle.units.specs.declared.Offer.{Offer}
-use Rattle.units.specs.Limits.{windowOk, bundleOk}
-use Rattle.units.specs.Answer.{refused, offers}
-use Rattle.units.specs.Arrays.{padded}
-use Rattle.units.proofs.Logic.{unless-go, unless-stop, unless-keeps, both-stop}
-use Rattle.segmentation.specs.declared.DelaySegment.{DelaySegment}
-use Rattle.segmentation.specs.Delay.{answerWith}
-use Rattle.contact.specs.Segments.{zeroDelay}
-use Rattle.free_list.specs.declared.FreeList.{FreeList}
+use Rattle.units.specs.Logic.{unless}
+use Rattle.units.specs.Limits.{bundleOk}
+use Rattle.units.specs.Answer.{refused, offers, refusalOf}
+use Rattle.units.proofs.Logic.{unless-go, unless-stop}
+use Rattle.units.proofs.Loads.{asked-load, load}
 use Rattle.free_list.specs.declared.Found.{Found}
 use Rattle.free_list.specs.declared.Found.the-variants.{At, None}
-use Rattle.free_list.specs.Cut.{listIn, wholeWindow}
-use Rattle.poly.specs.declared.Polynome.{Polynome}
-use Rattle.poly.specs.Poly.{polyOk}
+use Rattle.free_list.specs.Cut.{listIn}
+use Rattle.free_list.specs.Granted.{Inside, chosenIn}
+use Rattle.free_list.proofs.ByChoice.{table, table-refused, table-fits, table-found, table-done}
 use Rattle.poly_seg.specs.declared.PolySeg.{PolySeg}
-use Rattle.poly_seg.specs.declared.Opened.{Opened}
-use Rattle.poly_seg.specs.Open.{delaysOk, refusedOpening, openOf}
+use Rattle.poly_seg.specs.declared.Booked.{Booked}
 use Rattle.poly_seg.specs.Record.{delayList, recordOk}
 use Rattle.poly_seg.specs.DryRun.{dryRunOf, foundOf, answerTo}
 use Rattle.poly_seg.specs.Book.{bookOf, bookedOf, bookedAt, refusedBooking}
 use Rattle.poly_seg.specs.List.{listOf}
-
--- The opening: each test holds, and the answer where nothing is refused.
-pub record Passed (w : Interval) (p : Polynome) (delays : List DelaySegment) (k : ℕ) : Type 0 where
-  pub window : windowOk w ≡ true
-  pub delay : delaysOk k delays ≡ true
-  pub polynome : polyOk p w ≡ true
-
-abbrev pub doneOf : Interval → Polynome → List DelaySegment → ℕ → FreeList → Opened
-doneOf w p delays k f =
-    record { number = 0; manager = record { window = w; polynome = p; delays = delays; «delay_count» = k; free = f } }
-
-module _ (w : Interval) (p : Polynome) (delays : List DelaySegment) (k : ℕ) where
-  abbrev pub opened : Opened
-  opened = openOf w p delays k
-
-  pub open-window : windowOk w ≡ false → opened ≡ refusedOpening 3
-  unfolding openOf
-  open-window e = unless-stop _ _ _ e
-
-  module _ (h1 : windowOk w ≡ true) where
-    pub open-delays : delaysOk k delays ≡ false → opened ≡ refusedOpening 5
-    unfolding openOf
-    open-delays e = unless-go _ _ _ h1 ∙ unless-stop _ _ _ e
-
-    pub open-polynome : delaysOk k delays ≡ true → polyOk p w ≡ false → opened ≡ refusedOpening 11
-    unfolding openOf
-    open-polynome h2 e = unless-go _ _ _ h1 ∙ unless-go _ _ _ h2 ∙ unless-stop _ _ _ e
-
-  pub open-done : Passed w p delays k → opened ≡ doneOf w p (padded 16 zeroDelay (take k delays)) k (listIn (wholeWindow w 0 ∷ []))
-  unfolding openOf
-  open-done h = unless-go _ _ _ (h .window) ∙ unless-go _ _ _ (h .delay) ∙ unless-go _ _ _ (h .polynome)
-
-  -- the answer that is put together of these parts
-  pub open-parts : Passed w p delays k → (ds : List DelaySegment) → ds ≡ padded 16 zeroDelay (take k delays)
-      → (f : FreeList) → f ≡ listIn (wholeWindow w 0 ∷ []) → doneOf w p ds k f ≡ opened
-  open-parts h ds d f e = rw (d, e) (sym (open-done h))
-
-  -- what the number 0 tells
-  pub open-passed : opened .number ≡ 0 → Passed w p delays k
-  unfolding openOf
-  open-passed =
-      let P : Opened → Type 0 = λ (r : Opened). r .number ≡ 0 → Passed w p delays k in
-      unless-keeps P (windowOk w) _ _ (λ _ e. absurd (omega arith))
-      (λ h1. unless-keeps P (delaysOk k delays) _ _ (λ _ e. absurd (omega arith))
-      (λ h2. unless-keeps P (polyOk p w) _ _ (λ _ e. absurd (omega arith)) (λ h3 _. record { window = h1; delay = h2; polynome = h3 })))
-
-  -- its test, as a record has it
-  pub open-yes : Passed w p delays k → eqb (opened .number) 0 ≡ true
-  open-yes h = eq-eqb _ _ (ap (λ (r : Opened). r .number) (open-done h))
-
-  pub open-not : (n : ℕ) → opened ≡ refusedOpening n → (n ≡ 0 → ⊥) → eqb (opened .number) 0 ≡ false
-  open-not n e h = ne-eqb _ _ (λ z. h (sym (ap (λ (r : Opened). r .number) e) ∙ z))
-
--- no refusal is an offer
-pub no-offer : (d : TxData) → offers (refused 7) d ≡ false
-unfolding offers
-no-offer d = both-stop _ _ refl
+use Rattle.poly_seg.specs.Granted.{chosenOf}
+use Rattle.poly_seg.proofs.Facts.{facts, cut-asks}
 
 module _ (r : PolySeg) where
   pub list-record : recordOk r ≡ false → listOf r ≡ record { number = 1; list = listIn [] }
@@ -99,6 +35,12 @@ module _ (r : PolySeg) where
   unfolding listOf
   list-done e = unless-go _ _ _ e
 
+  -- a dry run answers what is chosen
+  same-offer : (c : Bool) (f : Found) → chosenIn c (delayList r) f .offer ≡ unless c (refused 2) (answerTo r f)
+  same-offer true (At i send) = refl
+  same-offer true None = refl
+  same-offer false f = refl
+
 module _ (r : PolySeg) (at : Date) (b : Bundle) where
   pub dry-record : recordOk r ≡ false → dryRunOf r at b ≡ refused 1
   unfolding dryRunOf
@@ -108,35 +50,41 @@ module _ (r : PolySeg) (at : Date) (b : Bundle) where
   unfolding bookOf
   book-record d e = unless-stop _ _ _ e
 
+  abbrev found : Found
+  found = foundOf r (at .0) (b .size .0)
+
+  abbrev refuse : ℕ → Booked
+  refuse n = refusedBooking n r
+
   module _ (ok : recordOk r ≡ true) where
-    pub dry-bundle : bundleOk at b ≡ false → dryRunOf r at b ≡ refused 2
-    unfolding dryRunOf
-    dry-bundle e = unless-go _ _ _ ok ∙ unless-stop _ _ _ e
+    pub chosen-offer : chosenOf r at b .offer ≡ dryRunOf r at b
+    unfolding chosenOf dryRunOf
+    chosen-offer = same-offer r (bundleOk at b) found ∙ sym (unless-go _ _ _ ok)
 
-    pub book-bundle : (d : TxData) → bundleOk at b ≡ false → bookOf r at b d ≡ refusedBooking 2 r
-    unfolding bookOf
-    book-bundle d e = unless-go _ _ _ ok ∙ unless-stop _ _ _ e
+    module _ (d : TxData) where
+      book-is : bookOf r at b d ≡ table (bundleOk at b) (delayList r) found d refuse (bookedAt r)
+      unfolding bookOf chosenOf
+      book-is =
+          unless-go _ _ _ ok
+          ∙ ap (λ (o : Offer). unless (bundleOk at b) (refuse 2) (unless (offers o d) (refuse 9) (bookedAt r found))) (sym chosen-offer)
 
-    module _ (fits : bundleOk at b ≡ true) where
-      pub dry-is : dryRunOf r at b ≡ answerTo r (foundOf r (at .0) (b .size .0))
-      unfolding dryRunOf
-      dry-is = unless-go _ _ _ ok ∙ unless-go _ _ _ fits
+      pub chosen-refused : (refusalOf (chosenOf r at b .offer) d ≡ 0 → ⊥) → bookOf r at b d ≡ refusedBooking (refusalOf (chosenOf r at b .offer) d) r
+      unfolding chosenOf
+      chosen-refused some = book-is ∙ table-refused (bundleOk at b) (delayList r) found d refuse (bookedAt r) some
 
-      pub dry-none : foundOf r (at .0) (b .size .0) ≡ None → dryRunOf r at b ≡ refused 7
-      dry-none e = dry-is ∙ ap (answerTo r) e
+      module _ (none : refusalOf (chosenOf r at b .offer) d ≡ 0) where
+        pub chosen-some : 1 ≤ b .size .0
+        unfolding chosenOf
+        chosen-some = load b (asked-load at b (table-fits (bundleOk at b) (delayList r) found d refuse (bookedAt r) none)) .some
 
-      pub dry-at : (i : ℕ) (send : Interval) → foundOf r (at .0) (b .size .0) ≡ At i send → dryRunOf r at b ≡ answerWith (delayList r) send
-      dry-at i send e = dry-is ∙ ap (answerTo r) e
+        -- the dates send what the search found
+        pub chosen-found : foundOf r (at .0) (b .size .0) ≡ At (chosenOf r at b .place) (d .send)
+        unfolding chosenOf
+        chosen-found = table-found (bundleOk at b) (delayList r) found d refuse (bookedAt r) none
 
-      pub book-other : (d : TxData) → offers (dryRunOf r at b) d ≡ false → bookOf r at b d ≡ refusedBooking 9 r
-      unfolding bookOf
-      book-other d e = unless-go _ _ _ ok ∙ unless-go _ _ _ fits ∙ unless-stop _ _ _ e
-
-      pub book-none : (d : TxData) → foundOf r (at .0) (b .size .0) ≡ None → bookOf r at b d ≡ refusedBooking 9 r
-      book-none d e = book-other d (ap (λ (o : Offer). offers o d) (dry-none e) ∙ no-offer d)
-
-      pub book-at : (d : TxData) (i : ℕ) (send : Interval) → foundOf r (at .0) (b .size .0) ≡ At i send → offers (dryRunOf r at b) d ≡ true
-          → bookOf r at b d ≡ bookedOf r i send
-      unfolding bookOf
-      book-at d i send e o =
-          unless-go _ _ _ ok ∙ unless-go _ _ _ fits ∙ unless-go _ _ _ o ∙ ap (λ (f : Found). bookedAt r f) e
+        pub chosen-done : (bookOf r at b d ≡ bookedOf r (chosenOf r at b .place) (d .send)) × Inside (r .free) (chosenOf r at b .place) 0
+        unfolding chosenOf
+        chosen-done = (
+          book-is ∙ table-done (bundleOk at b) (delayList r) found d refuse (bookedAt r) none,
+          cut-asks r (facts r ok) (at .0) (b .size .0) chosen-some _ (d .send) chosen-found,
+        )

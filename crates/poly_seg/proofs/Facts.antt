@@ -35,7 +35,7 @@ use Rattle.poly_seg.specs.DryRun.{foundOf}
 use Rattle.poly_seg.proofs.Lookup.{delays-most, delays-short}
 use Rattle.poly_seg.proofs.NoRates.{bare-here}
 use Rattle.poly_seg.proofs.Picked.{Picked, offer-picked}
-use Rattle.poly_seg.proofs.Calls.{Passed, open-window, open-delays, open-polynome, open-passed, open-yes, open-not}
+use Rattle.poly_seg.proofs.Opening.{Passed, open-window, open-delays, open-polynome, open-passed, open-yes, open-not}
 
 -- The record's test, test by test.
 module _ (r : PolySeg) where

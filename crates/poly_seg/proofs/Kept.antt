@@ -1,31 +1,24 @@
 -- A record that an accepted opening or booking hands back keeps the record rules; a refused booking hands back the one that came.
 use Prim.Native.Nat.{ℕ, _≤_}
-use mathlib.Core.Bool.{Bool, true, false}
+use mathlib.Core.Bool.{true}
 use mathlib.Core.Path.{_≡_, refl, sym, ap, _∙_}
 use mathlib.Core.List.{List, [], _∷_}
 use mathlib.Core.Logic.{⊎-elim, _⊎_, inl, inr}
 use native.Mathlib.Omega.{arith}
 use lib.ListN.{length, take, length-take}
-use borrow.Author.Tests.{eqb-true}
 use Rattle.units.specs.declared.Date.{Date}
 use Rattle.units.specs.declared.Interval.{Interval}
 use Rattle.units.specs.declared.TxData.{TxData}
 use Rattle.units.specs.declared.Bundle.{Bundle}
 use Rattle.units.specs.Logic.{both}
-use Rattle.units.specs.Limits.{bundleOk}
-use Rattle.units.specs.Answer.{offers, sameDates}
+use Rattle.units.specs.Answer.{refusalOf}
 use Rattle.units.specs.Arrays.{padded}
-use Rattle.units.proofs.Logic.{no-both, both-fst, both-snd}
-use Rattle.units.proofs.Loads.{asked-load, load}
+use Rattle.units.proofs.Numbers.{eq-or-ne}
 use Rattle.units.proofs.Windows.{window}
 use Rattle.units.proofs.Arrays.{take-padded, unused-padded}
 use Rattle.segmentation.specs.declared.DelaySegment.{DelaySegment}
-use Rattle.segmentation.specs.declared.Delays.{Delays}
-use Rattle.segmentation.specs.declared.Delays.the-variants.{Of, None as no-delay}
-use Rattle.segmentation.specs.Delay.{delaysOf, answerOf}
 use Rattle.contact.specs.Segments.{zeroDelay, noDelay}
-use Rattle.free_list.specs.declared.Found.{Found}
-use Rattle.free_list.specs.declared.Found.the-variants.{At, None}
+use Rattle.free_list.specs.declared.Found.the-variants.{At}
 use Rattle.free_list.specs.Cut.{listed, listIn, cutOf, cutList, wholeWindow}
 use Rattle.free_list.proofs.ListedLaws.{Listed}
 use Rattle.free_list.proofs.Offered.{offered-at}
@@ -36,12 +29,14 @@ use Rattle.poly_seg.specs.declared.PolySeg.{PolySeg}
 use Rattle.poly_seg.specs.declared.Opened.{Opened}
 use Rattle.poly_seg.specs.declared.Booked.{Booked}
 use Rattle.poly_seg.specs.Open.{delaysOk, openOf}
-use Rattle.poly_seg.specs.Record.{delayList, recordOk}
-use Rattle.poly_seg.specs.DryRun.{dryRunOf, foundOf}
+use Rattle.poly_seg.specs.Record.{recordOk}
+use Rattle.poly_seg.specs.DryRun.{foundOf}
 use Rattle.poly_seg.specs.Book.{bookOf, bookedOf, refusedBooking, withFree}
+use Rattle.poly_seg.specs.Granted.{chosenOf}
 use Rattle.poly_seg.proofs.Lookup.{delays-most}
-use Rattle.poly_seg.proofs.Calls.{Passed, doneOf, open-done, open-passed, dry-at, book-bundle, book-other, book-none, book-at}
+use Rattle.poly_seg.proofs.Opening.{Passed, doneOf, open-done, open-passed}
 use Rattle.poly_seg.proofs.Facts.{facts, record-kept, found-offered}
+use Rattle.poly_seg.proofs.Calls.{chosen-refused, chosen-some, chosen-found, chosen-done}
 
 -- The opening.
 zero-delay : noDelay zeroDelay ≡ true
@@ -92,57 +87,38 @@ pub record Accepted (r : PolySeg) (at : Date) (b : Bundle) (d : TxData) (a : Boo
 refuse : (n : ℕ) (r : PolySeg) (a : Booked) → (n ≡ 0 → ⊥) → a ≡ refusedBooking n r → Refused r a
 refuse n r a h e = record { number = λ z. h (sym (ap (λ (x : Booked). x .number) e) ∙ z); same = ap (λ (x : Booked). x .manager) e }
 
--- the dates of an offer are those of the send interval
-offer-send : (s e : ℕ) (x : Delays) (d : TxData) → offers (answerOf s e x) d ≡ true → (s ≡ d .send .start .0) × (e ≡ d .send .end .0)
-unfolding offers sameDates
-offer-send s e (Of a b) d h =
-    let dates = both-snd _ _ h in (eqb-true _ _ (both-fst _ _ dates), eqb-true _ _ (both-fst _ _ (both-snd _ _ dates)))
-offer-send s e no-delay d h = absurd (no-both (both-fst _ _ h) refl)
-
 module _ (r : PolySeg) (at : Date) (b : Bundle) (d : TxData) (ok : recordOk r ≡ true) where
   abbrev booked : Booked
   booked = bookOf r at b d
 
-  module _ (fits : bundleOk at b ≡ true) (i : ℕ) (send : Interval) (h : foundOf r (at .0) (b .size .0) ≡ At i send) where
-    at-place : offers (dryRunOf r at b) d ≡ true → (Refused r booked) ⊎ (Accepted r at b d booked)
-    at-place o =
-        let dates = offer-send _ _ (delaysOf (delayList r) (send .start .0) (send .end .0)) d (rw (dry-at r at b ok fits i send h) at o) in
-        let same : send ≡ d .send = ap (λ (x : ℕ). record { start = record { 0 = x }; end = send .end }) (dates .0) ∙ ap (λ (x : ℕ). record { start = d .send .start; end = record { 0 = x } }) (dates .1) in
-        let f : foundOf r (at .0) (b .size .0) ≡ At i (d .send) = h ∙ ap (λ (x : Interval). At i x) same in
-        let is : booked ≡ bookedOf r i (d .send) = book-at r at b ok fits d i (d .send) f o in
-        ⊎-elim
-        (λ (z : cutList [] (r .free) i (d .send .start .0) (d .send .end .0) 0 .number ≡ 0).
-        inr (record {
-          some = load b (asked-load at b fits) .some;
-          place = i;
-          found = f;
-          few = cut-few [] (r .free) i (d .send .start .0) (d .send .end .0) 0 z;
-          number = ap (λ (x : Booked). x .number) is ∙ z;
-          manager = ap (λ (x : Booked). x .manager) is ∙ ap (withFree r) (cut-list [] (r .free) i (d .send .start .0) (d .send .end .0) 0 z);
-        }))
-        (λ (z : cutList [] (r .free) i (d .send .start .0) (d .send .end .0) 0 .number ≡ 10).
-        inl (record {
-          number = λ y. omega (arith, y, z, ap (λ (x : Booked). x .number) is);
-          same = ap (λ (x : Booked). x .manager) is ∙ ap (withFree r) (cut-refused [] (r .free) i (d .send .start .0) (d .send .end .0) 0 (λ y. omega arith));
-        }))
-        (cut-number [] (r .free) i (d .send .start .0) (d .send .end .0) 0)
-
-  offered-go : bundleOk at b ≡ true → (i : ℕ) (send : Interval) → foundOf r (at .0) (b .size .0) ≡ At i send → (c : Bool) → offers (dryRunOf r at b) d ≡ c
-      → (Refused r booked) ⊎ (Accepted r at b d booked)
-  offered-go fits i send h true o = at-place fits i send h o
-  offered-go fits i send h false o = inl (refuse 9 r booked (λ z. omega arith) (book-other r at b ok fits d o))
-
-  found-go : bundleOk at b ≡ true → (f : Found) → foundOf r (at .0) (b .size .0) ≡ f → (Refused r booked) ⊎ (Accepted r at b d booked)
-  found-go fits (At i send) h = offered-go fits i send h (offers (dryRunOf r at b) d) refl
-  found-go fits None h = inl (refuse 9 r booked (λ z. omega arith) (book-none r at b ok fits d h))
-
-  bundle-go : (c : Bool) → bundleOk at b ≡ c → (Refused r booked) ⊎ (Accepted r at b d booked)
-  bundle-go true fits = found-go fits (foundOf r (at .0) (b .size .0)) refl
-  bundle-go false e = inl (refuse 2 r booked (λ z. omega arith) (book-bundle r at b ok d e))
+  at-place : refusalOf (chosenOf r at b .offer) d ≡ 0 → (Refused r booked) ⊎ (Accepted r at b d booked)
+  at-place none =
+      let i = chosenOf r at b .place in
+      let is : booked ≡ bookedOf r i (d .send) = chosen-done r at b ok d none .0 in
+      ⊎-elim
+      (λ (z : cutList [] (r .free) i (d .send .start .0) (d .send .end .0) 0 .number ≡ 0).
+      inr (record {
+        some = chosen-some r at b ok d none;
+        place = i;
+        found = chosen-found r at b ok d none;
+        few = cut-few [] (r .free) i (d .send .start .0) (d .send .end .0) 0 z;
+        number = ap (λ (x : Booked). x .number) is ∙ z;
+        manager = ap (λ (x : Booked). x .manager) is ∙ ap (withFree r) (cut-list [] (r .free) i (d .send .start .0) (d .send .end .0) 0 z);
+      }))
+      (λ (z : cutList [] (r .free) i (d .send .start .0) (d .send .end .0) 0 .number ≡ 10).
+      inl (record {
+        number = λ y. omega (arith, y, z, ap (λ (x : Booked). x .number) is);
+        same = ap (λ (x : Booked). x .manager) is ∙ ap (withFree r) (cut-refused [] (r .free) i (d .send .start .0) (d .send .end .0) 0 (λ y. omega arith));
+      }))
+      (cut-number [] (r .free) i (d .send .start .0) (d .send .end .0) 0)
 
   -- a booking is refused, and the record is the one that came; or the offer is cut out of the free list
   pub book-cases : (Refused r booked) ⊎ (Accepted r at b d booked)
-  book-cases = bundle-go (bundleOk at b) refl
+  book-cases =
+      ⊎-elim
+      at-place
+      (λ (some : refusalOf (chosenOf r at b .offer) d ≡ 0 → ⊥). inl (refuse _ r booked some (chosen-refused r at b ok d some)))
+      (eq-or-ne (refusalOf (chosenOf r at b .offer) d) 0)
 
   -- no call ever meets refusal 1 after a fresh opening
   pub book-keeps : recordOk (booked .manager) ≡ true

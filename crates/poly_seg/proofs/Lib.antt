@@ -1,8 +1,9 @@
 pub mod Lookup
 pub mod NoRates
 pub mod Picked
-pub mod Calls
+pub mod Opening
 pub mod Facts
+pub mod Calls
 pub mod Kept
 pub mod Unique
 pub mod Cases

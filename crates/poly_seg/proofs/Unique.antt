@@ -17,10 +17,12 @@ use Rattle.poly_seg.proofs.bare_segment.Reads as bare-segment-reads
 use Rattle.poly_seg.proofs.bare_ok.Reads as bare-ok-reads
 use Rattle.poly_seg.proofs.PolySeg.open.Reads as open-reads
 use Rattle.poly_seg.proofs.PolySeg.ok.Reads as ok-reads
+use Rattle.poly_seg.proofs.PolySeg.chosen.Reads as chosen-reads
 use Rattle.poly_seg.proofs.PolySeg.dry_run_kept.Reads as dry-run-kept-reads
 use Rattle.poly_seg.proofs.PolySeg.dry_run.Reads as dry-run-reads
 use Rattle.poly_seg.proofs.PolySeg.book_kept.Reads as book-kept-reads
 use Rattle.poly_seg.proofs.PolySeg.book.Reads as book-reads
+use Rattle.poly_seg.proofs.PolySeg.cut.Reads as cut-reads
 use Rattle.poly_seg.proofs.PolySeg.list.Reads as list-reads
 
 pub delay-ok-unique : (s : DelaySegment) → Determined (delay-ok-reads.Post tt (s, tt))
@@ -42,6 +44,9 @@ module _ (self : PolySeg) where
   pub ok-unique : Determined (ok-reads.Post tt (self, tt))
   ok-unique r q x y f g = f ∙ sym g
 
+  pub chosen-unique : (at : Date) (b : Bundle) → Determined (chosen-reads.Post tt (self, (at, (b, tt))))
+  chosen-unique at b r q x y f g = f ∙ sym g
+
   pub dry-run-kept-unique : (at : Date) (b : Bundle) → Determined (dry-run-kept-reads.Post tt (self, (at, (b, tt))))
   dry-run-kept-unique at b r q x y f g = f ∙ sym g
 
@@ -53,6 +58,9 @@ module _ (self : PolySeg) where
 
   pub book-unique : (at : Date) (b : Bundle) (d : TxData) → Determined (book-reads.Post tt (self, (at, (b, (d, tt)))))
   book-unique at b d r q x y f g = f ∙ sym g
+
+  pub cut-unique : (place : ℕ) (send : Interval) → Determined (cut-reads.Post tt (self, (place, (send, tt))))
+  cut-unique place send r q x y f g = f ∙ sym g
 
   pub list-unique : Determined (list-reads.Post tt (self, tt))
   list-unique r q x y f g = f ∙ sym g

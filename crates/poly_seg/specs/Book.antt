@@ -26,10 +26,14 @@ abbrev pub withFree : PolySeg → FreeList → PolySeg
 withFree r f =
     record { window = r .window; polynome = r .polynome; delays = r .delays; «delay_count» = r .«delay_count»; free = f }
 
--- the record with the segment at a place cut, or 10 and the record as it came; no rates and no size, so no volumes
+-- what a booking leaves of the record's list, or 10 and the list as it came; no rates and no size, so no volumes
+abbrev pub cutFree : PolySeg → ℕ → Interval → Cut
+cutFree r i send = cutList [] (r .free) i (send .start .0) (send .end .0) 0
+
+-- the record with the segment at a place cut, or 10 and the record as it came
 abbrev pub bookedOf : PolySeg → ℕ → Interval → Booked
 bookedOf r i send =
-    let done : Cut = cutList [] (r .free) i (send .start .0) (send .end .0) 0 in
+    let done : Cut = cutFree r i send in
     record { number = done .number; manager = withFree r (done .list) }
 
 -- the cut at what the dry run found

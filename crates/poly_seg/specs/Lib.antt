@@ -3,3 +3,4 @@ pub mod Record
 pub mod DryRun
 pub mod Book
 pub mod List
+pub mod Granted

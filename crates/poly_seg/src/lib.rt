@@ -1,4 +1,6 @@
 // The polynomial manager (poly_seg.rs: PolySegManager): open, dry run, book, list.
+use free_list::Chosen;
+use free_list::Cut;
 use free_list::Found;
 use free_list::FreeList;
 use poly::Polynome;
@@ -25,8 +27,9 @@ ghost use Rattle.free_list.specs.Granted.{Inside};
 ghost use Rattle.poly_seg.specs.Open.{openOf, refusedOpening, delayOk, delaysOk};
 ghost use Rattle.poly_seg.specs.Record.{recordOk, delayList};
 ghost use Rattle.poly_seg.specs.DryRun.{endIn, foundOf, dryRunOf};
-ghost use Rattle.poly_seg.specs.Book.{bookOf, bookedOf, refusedBooking};
+ghost use Rattle.poly_seg.specs.Book.{bookOf, cutFree, refusedBooking};
 ghost use Rattle.poly_seg.specs.List.{listOf};
+ghost use Rattle.poly_seg.specs.Granted.{chosenOf};
 
 pub struct PolySeg {
     pub window: Interval,
@@ -292,19 +295,32 @@ impl PolySeg {
         segmentation::answer_at(delays, k, send)
     }
 
-    // The dry run on a record that keeps its rules, without testing it again: for a caller who holds such a record.
+    // What a dry run finds on a record that keeps its rules: its answer, and where it comes from.
+    pub fn chosen(self, at: Date, bundle: Bundle) -> Chosen
+        requires { ⌜ recordOk self ≡ true ⌝ }
+        ensures { λ r. ⌜ r ≡ chosenOf self at bundle ⌝ }
+    {
+        if !bundle.ok_at(at) {
+            return Chosen::refused(units::refusal::BUNDLE);
+        }
+        let size = bundle.size;
+        let Found::At { place, send } = self.search(at, size) else {
+            return Chosen::refused(units::refusal::NO_OFFER);
+        };
+        let offer = self.answer(send);
+        Chosen {
+            offer: offer,
+            place: place,
+        }
+    }
+
+    // The dry run on such a record, without testing it again: for a caller who holds one.
     pub fn dry_run_kept(self, at: Date, bundle: Bundle) -> Offer
         requires { ⌜ recordOk self ≡ true ⌝ }
         ensures { λ r. ⌜ r ≡ dryRunOf self at bundle ⌝ }
     {
-        if !bundle.ok_at(at) {
-            return Offer::refused(units::refusal::BUNDLE);
-        }
-        let size = bundle.size;
-        let Found::At { place: _, send } = self.search(at, size) else {
-            return Offer::refused(units::refusal::NO_OFFER);
-        };
-        self.answer(send)
+        let c = self.chosen(at, bundle);
+        c.offer
     }
 
     // dry_run_tx: 1, 2, then 7 or 8.
@@ -322,18 +338,22 @@ impl PolySeg {
         requires { ⌜ recordOk self ≡ true ⌝ }
         ensures { λ r. ⌜ r ≡ bookOf self at bundle dates ⌝ }
     {
-        if !bundle.ok_at(at) {
-            return self.refused_booking(units::refusal::BUNDLE);
+        let c = self.chosen(at, bundle);
+        let offer = c.offer;
+        let place = c.place;
+        let number = offer.refusal(dates);
+        if number != 0 {
+            return self.refused_booking(number);
         }
-        let size = bundle.size;
-        let Found::At { place, send } = self.search(at, size) else {
-            return self.refused_booking(units::refusal::NOT_OFFERED);
-        };
-        let offer = self.answer(send);
-        if !offer.is(dates) {
-            return self.refused_booking(units::refusal::NOT_OFFERED);
+        let send = dates.send;
+        let done = self.cut(place, send);
+        let left = done.list;
+        let mut next = self;
+        next.free = left;
+        Booked {
+            number: done.number,
+            manager: next,
         }
-        self.cut(place, send)
     }
 
     // schedule_tx, with the time that the dry run was asked: 1, 2, 9, then 10.
@@ -346,10 +366,10 @@ impl PolySeg {
         self.book_kept(at, bundle, dates)
     }
 
-    // What a booking leaves of the record, on a record that keeps its rules: no rates, so no volumes.
-    fn cut(self, place: usize, send: Interval) -> Booked
+    // What a booking leaves of the list, on a record that keeps its rules: no rates, so no volumes.
+    pub fn cut(self, place: usize, send: Interval) -> Cut
         requires { ⌜ Inside (self .free) place 0 ⌝ }
-        ensures { λ r. ⌜ r ≡ bookedOf self place send ⌝ }
+        ensures { λ r. ⌜ r ≡ cutFree self place send ⌝ }
     {
         let zero = VolumeSegment {
             start: Date(0),
@@ -358,15 +378,7 @@ impl PolySeg {
         };
         let rates = [zero; RateSegment::COUNT_MAX];
         let free = self.free;
-        let done = free.cut(rates, 0, place, send, Volume(0));
-        let number = done.number;
-        let left = done.list;
-        let mut next = self;
-        next.free = left;
-        Booked {
-            number: number,
-            manager: next,
-        }
+        free.cut(rates, 0, place, send, Volume(0))
     }
 
     // The listed segments: 1.

@@ -1,5 +1,5 @@
 -- Each call, refusal by refusal: what its definition answers where a test is known.
-use Prim.Native.Nat.{ℕ, _+_}
+use Prim.Native.Nat.{ℕ}
 use mathlib.Core.Bool.{true, false}
 use mathlib.Core.Path.{_≡_, refl, ap, _∙_}
 use mathlib.Core.Logic.{_⊎_, inl, inr}
@@ -9,13 +9,12 @@ use Rattle.units.specs.declared.Date.{Date}
 use Rattle.units.specs.declared.Interval.{Interval}
 use Rattle.units.specs.declared.TxData.{TxData}
 use Rattle.units.specs.declared.Bundle.{Bundle}
-use Rattle.units.specs.declared.Offer.{Offer}
+use Rattle.units.specs.Logic.{unless}
 use Rattle.units.specs.Limits.{bundleOk}
 use Rattle.units.specs.Answer.{refused, offers}
 use Rattle.units.proofs.Logic.{unless-go, unless-stop}
 use Rattle.segmentation.specs.Delay.{answerWith}
 use Rattle.contact.specs.Record.{delayList}
-use Rattle.contact.proofs.Offers.{refused-offers}
 use Rattle.bookings.specs.declared.Run.{Run}
 use Rattle.bookings.specs.declared.Run.the-variants.{Idle, Going, Sent}
 use Rattle.bookings.proofs.Run.{the-type}
@@ -56,30 +55,23 @@ module _ (r : PrioritySeg) (at : Date) (b : Bundle) where
     unfolding dryRunOf
     dry-bundle e = unless-go _ _ _ ok ∙ unless-stop _ _ _ e
 
-    pub book-bundle : (d : TxData) → bundleOk at b ≡ false → bookOf r at b d ≡ refusedBooking 2 r
+    pub book-kept : (d : TxData) → bookOf r at b d
+        ≡ unless (bundleOk at b) (refusedBooking 2 r) (unless (offers (dryRunOf r at b) d) (refusedBooking 9 r) (bookedAt r (runOf r (at .0) b) (b .priority .0)))
     unfolding bookOf
-    book-bundle d e = unless-go _ _ _ ok ∙ unless-stop _ _ _ e
+    book-kept d = unless-go _ _ _ ok
 
     module _ (fits : bundleOk at b ≡ true) where
-      dry-is : dryRunOf r at b ≡ answerTo r (runOf r (at .0) b)
+      pub dry-fits : dryRunOf r at b ≡ answerTo r (runOf r (at .0) b)
       unfolding dryRunOf
-      dry-is = unless-go _ _ _ ok ∙ unless-go _ _ _ fits
+      dry-fits = unless-go _ _ _ ok ∙ unless-go _ _ _ fits
 
       pub dry-none : (x : Run) → runOf r (at .0) b ≡ x → Unsent x → dryRunOf r at b ≡ refused 7
-      dry-none x e u = dry-is ∙ ap (answerTo r) e ∙ unsent-answer r x u
+      dry-none x e u = dry-fits ∙ ap (answerTo r) e ∙ unsent-answer r x u
 
       pub dry-at : (send : Interval) → runOf r (at .0) b ≡ Sent send → dryRunOf r at b ≡ answerWith (delayList (r .contact)) send
-      dry-at send e = dry-is ∙ ap (answerTo r) e
-
-      pub book-other : (d : TxData) → offers (dryRunOf r at b) d ≡ false → bookOf r at b d ≡ refusedBooking 9 r
-      unfolding bookOf
-      book-other d e = unless-go _ _ _ ok ∙ unless-go _ _ _ fits ∙ unless-stop _ _ _ e
-
-      pub book-none : (d : TxData) (x : Run) → runOf r (at .0) b ≡ x → Unsent x → bookOf r at b d ≡ refusedBooking 9 r
-      book-none d x e u = book-other d (ap (λ (o : Offer). offers o d) (dry-none x e u) ∙ refused-offers 7 d (λ z. omega arith))
+      dry-at send e = dry-fits ∙ ap (answerTo r) e
 
       pub book-at : (d : TxData) (send : Interval) → runOf r (at .0) b ≡ Sent send → offers (dryRunOf r at b) d ≡ true
-          → bookOf r at b d ≡ bookedOf r send (b .priority .0 + 1)
-      unfolding bookOf
+          → bookOf r at b d ≡ bookedOf r send (b .priority .0)
       book-at d send e o =
-          unless-go _ _ _ ok ∙ unless-go _ _ _ fits ∙ unless-go _ _ _ o ∙ ap (λ (x : Run). bookedAt r x (b .priority .0)) e
+          book-kept d ∙ unless-go _ _ _ fits ∙ unless-go _ _ _ o ∙ ap (λ (x : Run). bookedAt r x (b .priority .0)) e

@@ -1,6 +1,6 @@
 -- A record that an accepted opening or booking hands back keeps the record rules; a refused booking hands back the one that came.
 use Prim.Native.Nat.{ℕ, _+_, _<_, _≤_}
-use mathlib.Core.Bool.{Bool, true, false}
+use mathlib.Core.Bool.{true}
 use mathlib.Core.Path.{_≡_, refl, sym, ap, _∙_}
 use mathlib.Core.List.{List, [], _∷_}
 use mathlib.Core.Logic.{⊎-elim, _⊎_, inl, inr}
@@ -12,23 +12,20 @@ use Rattle.units.specs.declared.Date.{Date}
 use Rattle.units.specs.declared.Interval.{Interval}
 use Rattle.units.specs.declared.TxData.{TxData}
 use Rattle.units.specs.declared.Bundle.{Bundle}
-use Rattle.units.specs.Limits.{bundleOk}
-use Rattle.units.specs.Answer.{offers}
+use Rattle.units.specs.Answer.{refusalOf}
 use Rattle.units.proofs.Logic.{unless-keeps}
 use Rattle.units.proofs.Loads.{asked-load, load}
-use Rattle.units.proofs.Numbers.{le-or-lt}
+use Rattle.units.proofs.Numbers.{le-or-lt, eq-or-ne}
 use Rattle.segmentation.specs.declared.RateSegment.{RateSegment}
 use Rattle.segmentation.specs.declared.DelaySegment.{DelaySegment}
 use Rattle.contact.specs.declared.Opened.{Opened as ContactOpened}
-use Rattle.contact.specs.Record.{contactOk, delayList}
+use Rattle.contact.specs.Record.{contactOk}
 use Rattle.contact.specs.Open.{contactOf, openContact}
 use Rattle.contact.proofs.Sound.{sound}
 use Rattle.contact.proofs.Fresh.{opened-ok}
 use Rattle.contact.proofs.Refusals.{opened-is}
-use Rattle.contact.proofs.Offers.{offers-send}
 use Rattle.bookings.specs.declared.BookingSegment.{BookingSegment}
-use Rattle.bookings.specs.declared.Run.{Run}
-use Rattle.bookings.specs.declared.Run.the-variants.{Idle, Going, Sent}
+use Rattle.bookings.specs.declared.Run.the-variants.{Sent}
 use Rattle.bookings.specs.declared.Set.{Set}
 use Rattle.bookings.specs.Listed.{levelAt, listed}
 use Rattle.bookings.specs.Cut.{setOf, laidOf}
@@ -42,9 +39,9 @@ use Rattle.pseg.specs.declared.Booked.{Booked}
 use Rattle.pseg.specs.Record.{recordOk}
 use Rattle.pseg.specs.Open.{listIn, wholeWindow, refusedOpening, openedOf, openOf}
 use Rattle.pseg.specs.DryRun.{dryRunOf, runOf}
-use Rattle.pseg.specs.Book.{bookOf, bookedOf, refusedBooking}
+use Rattle.pseg.specs.Book.{bookOf, refusedBooking}
 use Rattle.pseg.proofs.Facts.{facts, listed-in, record-kept, cover-some, found-ends}
-use Rattle.pseg.proofs.Calls.{dry-at, book-bundle, book-other, book-none, book-at}
+use Rattle.pseg.proofs.ByDryRun.{dry-refused, dry-bundled, dry-found, dry-done}
 
 -- The opening.
 abbrev doneOf : Interval → ContactOpened → Opened
@@ -84,16 +81,16 @@ pub record Refused (r : PrioritySeg) (a : Booked) : Type 0 where
   pub same : a .manager ≡ r
 
 -- the listed segments with the send interval set to the priority's level
-abbrev pub setList : PrioritySeg → Bundle → TxData → List BookingSegment
-setList r b d = setOf (d .send .start .0) (d .send .end .0) (b .priority .0 + 1) (listed (r .bookings))
+abbrev pub setListed : PrioritySeg → Bundle → TxData → List BookingSegment
+setListed r b d = setOf (d .send .start .0) (d .send .end .0) (b .priority .0 + 1) (listed (r .bookings))
 
 pub record Accepted (r : PrioritySeg) (at : Date) (b : Bundle) (d : TxData) (a : Booked) : Type 0 where
   pub some : 0 < b .size .0
   pub level : b .priority .0 + 1 ≤ 128
   pub found : runOf r (at .0) b ≡ Sent (d .send)
-  pub few : length (setList r b d) ≤ 64
+  pub few : length (setListed r b d) ≤ 64
   pub number : a .number ≡ 0
-  pub manager : a .manager ≡ record { contact = r .contact; bookings = listIn (setList r b d) }
+  pub manager : a .manager ≡ record { contact = r .contact; bookings = listIn (setListed r b d) }
 
 refuse : (n : ℕ) (r : PrioritySeg) (a : Booked) → (n ≡ 0 → ⊥) → a ≡ refusedBooking n r → Refused r a
 refuse n r a h e = record { number = λ z. h (sym (ap (λ (x : Booked). x .number) e) ∙ z); same = ap (λ (x : Booked). x .manager) e }
@@ -105,21 +102,19 @@ module _ (r : PrioritySeg) (at : Date) (b : Bundle) (d : TxData) (ok : recordOk 
   abbrev bookedBy : Set → Booked
   bookedBy x = record { number = x .number; manager = record { contact = r .contact; bookings = x .bookings } }
 
-  module _ (fits : bundleOk at b ≡ true) (send : Interval) (h : runOf r (at .0) b ≡ Sent send) where
-    sent-go : offers (dryRunOf r at b) d ≡ true → (Refused r booked) ⊎ (Accepted r at b d booked)
-    sent-go o =
-        let list = setList r b d in
-        let l = load b (asked-load at b fits) in
-        let same : send ≡ d .send = offers-send (delayList (r .contact)) send d (rw (dry-at r at b ok fits send h) at o) in
-        let f : runOf r (at .0) b ≡ Sent (d .send) = h ∙ ap (λ (x : Interval). Sent x) same in
-        let is : booked ≡ bookedOf r (d .send) (b .priority .0 + 1) = book-at r at b ok fits d (d .send) f o in
+  module _ (none : refusalOf (dryRunOf r at b) d ≡ 0) where
+    done-go : (Refused r booked) ⊎ (Accepted r at b d booked)
+    done-go =
+        let list = setListed r b d in
+        let l = load b (asked-load at b (dry-bundled r at b d ok none)) in
+        let is = dry-done r at b d ok none .0 in
         ⊎-elim
         (λ (few : length list ≤ 64).
         let done = is ∙ sym (ap bookedBy (set-fits (r .bookings) (d .send .start .0) (d .send .end .0) (b .priority .0 + 1) (length list) refl (laidOf list) few refl)) in
         inr (record {
           some = l .some;
           level = omega (arith, l .priority);
-          found = f;
+          found = dry-found r at b d ok none;
           few = few;
           number = ap (λ (x : Booked). x .number) done;
           manager = ap (λ (x : Booked). x .manager) done;
@@ -129,22 +124,14 @@ module _ (r : PrioritySeg) (at : Date) (b : Bundle) (d : TxData) (ok : recordOk 
         inl (refuse 10 r booked (λ z. omega arith) (is ∙ full)))
         (le-or-lt (length list) 64)
 
-    offered-go : (c : Bool) → offers (dryRunOf r at b) d ≡ c → (Refused r booked) ⊎ (Accepted r at b d booked)
-    offered-go true o = sent-go o
-    offered-go false o = inl (refuse 9 r booked (λ z. omega arith) (book-other r at b ok fits d o))
-
-  found-go : bundleOk at b ≡ true → (x : Run) → runOf r (at .0) b ≡ x → (Refused r booked) ⊎ (Accepted r at b d booked)
-  found-go fits (Sent send) h = offered-go fits send h (offers (dryRunOf r at b) d) refl
-  found-go fits (Going send) h = inl (refuse 9 r booked (λ z. omega arith) (book-none r at b ok fits d (Going send) h tt))
-  found-go fits Idle h = inl (refuse 9 r booked (λ z. omega arith) (book-none r at b ok fits d Idle h tt))
-
-  bundle-go : (c : Bool) → bundleOk at b ≡ c → (Refused r booked) ⊎ (Accepted r at b d booked)
-  bundle-go true fits = found-go fits (runOf r (at .0) b) refl
-  bundle-go false e = inl (refuse 2 r booked (λ z. omega arith) (book-bundle r at b ok d e))
-
   -- a booking is refused, and the record is the one that came; or the send interval is set to the priority's level
   pub book-cases : (Refused r booked) ⊎ (Accepted r at b d booked)
-  book-cases = bundle-go (bundleOk at b) refl
+  book-cases =
+      let n = refusalOf (dryRunOf r at b) d in
+      ⊎-elim
+      (λ (none : n ≡ 0). done-go none)
+      (λ (some : n ≡ 0 → ⊥). inl (refuse n r booked some (dry-refused r at b d ok some)))
+      (eq-or-ne n 0)
 
   -- no call ever meets refusal 1 after a fresh opening
   pub book-keeps : recordOk (booked .manager) ≡ true
@@ -158,15 +145,15 @@ module _ (r : PrioritySeg) (at : Date) (b : Bundle) (d : TxData) (ok : recordOk 
       let ends = found-ends r q (at .0) b (d .send) (x .found) (x .some) in
       let some = set-some s e (b .priority .0 + 1) (listed (r .bookings)) (cover-some _ _ (listed (r .bookings)) (q .contact .some) (q .cover)) in
       let cover = set-cover s e (b .priority .0 + 1) (ends .forth) (x .level) _ _ (listed (r .bookings)) (q .cover) in
-      rw (x .manager) (record-kept (r .contact) (setList r b d) (q .test) some (x .few) cover))
+      rw (x .manager) (record-kept (r .contact) (setListed r b d) (q .test) some (x .few) cover))
       book-cases
 
   module _ (zero : bookOf r at b d .number ≡ 0) where
     pub book-accepted : Accepted r at b d booked
     book-accepted = ⊎-elim (λ (x : Refused r booked). absurd (x .number zero)) (λ (x : Accepted r at b d booked). x) book-cases
 
-    booked-list : listed (booked .manager .bookings) ≡ setList r b d
-    booked-list = ap (λ (m : PrioritySeg). listed (m .bookings)) (book-accepted .manager) ∙ listed-in (setList r b d)
+    booked-list : listed (booked .manager .bookings) ≡ setListed r b d
+    booked-list = ap (λ (m : PrioritySeg). listed (m .bookings)) (book-accepted .manager) ∙ listed-in (setListed r b d)
 
     -- an accepted booking tick by tick: in the send interval the priority's level, everywhere else in the window the old one
     pub booked-instants : (t : ℕ) → r .contact .window .start .0 ≤ t → t < r .contact .window .end .0

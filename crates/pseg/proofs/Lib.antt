@@ -1,5 +1,6 @@
 pub mod Facts
 pub mod Calls
+pub mod ByDryRun
 pub mod Kept
 pub mod Unique
 pub mod Cases

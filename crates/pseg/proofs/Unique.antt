@@ -3,6 +3,7 @@ use Prim.Native.Nat.{ℕ}
 use mathlib.Core.Path.{sym, _∙_}
 use mathlib.Core.List.{List}
 use Rattle.units.specs.declared.Date.{Date}
+use Rattle.units.specs.declared.Priority.{Priority}
 use Rattle.units.specs.declared.Interval.{Interval}
 use Rattle.units.specs.declared.TxData.{TxData}
 use Rattle.units.specs.declared.Bundle.{Bundle}
@@ -18,6 +19,7 @@ use Rattle.pseg.proofs.PrioritySeg.dry_run_kept.Reads as dry-run-kept-r
 use Rattle.pseg.proofs.PrioritySeg.dry_run.Reads as dry-run-reads
 use Rattle.pseg.proofs.PrioritySeg.book_kept.Reads as book-kept-reads
 use Rattle.pseg.proofs.PrioritySeg.book.Reads as book-reads
+use Rattle.pseg.proofs.PrioritySeg.set.Reads as set-reads
 use Rattle.pseg.proofs.PrioritySeg.list.Reads as list-reads
 
 pub nothing-unique : Determined (nothing-reads.Post tt tt)
@@ -44,6 +46,9 @@ module _ (self : PrioritySeg) where
 
   pub book-unique : (at : Date) (b : Bundle) (d : TxData) → Determined (book-reads.Post tt (self, (at, (b, (d, tt)))))
   book-unique at b d r q x y f g = f ∙ sym g
+
+  pub set-unique : (send : Interval) (priority : Priority) → Determined (set-reads.Post tt (self, (send, (priority, tt))))
+  set-unique send priority r q x y f g = f ∙ sym g
 
   pub list-unique : Determined (list-reads.Post tt (self, tt))
   list-unique r q x y f g = f ∙ sym g

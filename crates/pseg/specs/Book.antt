@@ -19,15 +19,19 @@ use Rattle.pseg.specs.DryRun.{dryRunOf, runOf}
 abbrev pub refusedBooking : ℕ → PrioritySeg → Booked
 refusedBooking n r = record { number = n; manager = r }
 
--- the record with the send interval set to a level, or 10 and the record as it came
+-- the record's list with the send interval set to a priority, whose level is one above it; or 10 and the list as it came
+abbrev pub setList : PrioritySeg → Interval → ℕ → Set
+setList r send p = setBookings (r .bookings) (send .start .0) (send .end .0) (p + 1)
+
+-- the record with the send interval set to a priority, or 10 and the record as it came
 abbrev pub bookedOf : PrioritySeg → Interval → ℕ → Booked
-bookedOf r send w =
-    let done : Set = setBookings (r .bookings) (send .start .0) (send .end .0) w in
+bookedOf r send p =
+    let done : Set = setList r send p in
     record { number = done .number; manager = record { contact = r .contact; bookings = done .bookings } }
 
--- the send interval that the dry run found is set to the priority, whose level is one above it
+-- the send interval that the dry run found is set to the priority
 abbrev pub bookedAt : PrioritySeg → Run → ℕ → Booked
-bookedAt r (Sent send) p = bookedOf r send (p + 1)
+bookedAt r (Sent send) p = bookedOf r send p
 bookedAt r (Going send) p = refusedBooking 9 r
 bookedAt r Idle p = refusedBooking 9 r
 

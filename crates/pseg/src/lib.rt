@@ -3,6 +3,7 @@ use bookings::BookingSegment;
 use bookings::Bookings;
 use bookings::Level;
 use bookings::Run;
+use bookings::Set;
 use contact::Contact;
 use segmentation::DelaySegment;
 use segmentation::RateSegment;
@@ -10,15 +11,16 @@ use units::Bundle;
 use units::Date;
 use units::Interval;
 use units::Offer;
+use units::Priority;
 use units::TxData;
 ghost use mathlib.Core.Path.{_≡_};
 ghost use mathlib.Core.Bool.{true};
 ghost use mathlib.Core.List.{List, [], _∷_};
-ghost use Prim.Native.Nat.{_<_};
+ghost use Prim.Native.Nat.{_≤_};
 ghost use Rattle.pseg.specs.Open.{openOf, refusedOpening, listIn, wholeWindow};
 ghost use Rattle.pseg.specs.Record.{recordOk};
-ghost use Rattle.pseg.specs.DryRun.{dryRunOf, runOf};
-ghost use Rattle.pseg.specs.Book.{bookOf, bookedOf, refusedBooking};
+ghost use Rattle.pseg.specs.DryRun.{dryRunOf};
+ghost use Rattle.pseg.specs.Book.{bookOf, setList, refusedBooking};
 ghost use Rattle.pseg.specs.List.{listOf};
 
 pub struct PrioritySeg {
@@ -154,11 +156,14 @@ impl PrioritySeg {
         bookings::unused(segments, n)
     }
 
-    // The search of a dry run, on a record that keeps its rules.
-    fn search(self, at: Date, bundle: Bundle) -> Run
-        requires { ⌜ recordOk self ≡ true ⌝ ∗ ⌜ 0 < bundle .size .0 ⌝ }
-        ensures { λ r. ⌜ r ≡ runOf self (at .0) bundle ⌝ }
+    // The dry run on a record that keeps its rules, without testing it again: for a caller who holds such a record.
+    pub fn dry_run_kept(self, at: Date, bundle: Bundle) -> Offer
+        requires { ⌜ recordOk self ≡ true ⌝ }
+        ensures { λ r. ⌜ r ≡ dryRunOf self at bundle ⌝ }
     {
+        if !bundle.ok_at(at) {
+            return Offer::refused(units::refusal::BUNDLE);
+        }
         let contact = self.contact;
         let bookings = self.bookings;
         let window = contact.window;
@@ -168,21 +173,10 @@ impl PrioritySeg {
         let n = bookings.count;
         let size = bundle.size;
         let priority = bundle.priority;
-        bookings::find_run(rates, m, window, segments, n, at, size, priority)
-    }
-
-    // The dry run on a record that keeps its rules, without testing it again: for a caller who holds such a record.
-    pub fn dry_run_kept(self, at: Date, bundle: Bundle) -> Offer
-        requires { ⌜ recordOk self ≡ true ⌝ }
-        ensures { λ r. ⌜ r ≡ dryRunOf self at bundle ⌝ }
-    {
-        if !bundle.ok_at(at) {
-            return Offer::refused(units::refusal::BUNDLE);
-        }
-        let Run::Sent(send) = self.search(at, bundle) else {
+        let Run::Sent(send) = bookings::find_run(rates, m, window, segments, n, at, size, priority)
+        else {
             return Offer::refused(units::refusal::NO_OFFER);
         };
-        let contact = self.contact;
         contact.answer(send)
     }
 
@@ -201,19 +195,21 @@ impl PrioritySeg {
         requires { ⌜ recordOk self ≡ true ⌝ }
         ensures { λ r. ⌜ r ≡ bookOf self at bundle dates ⌝ }
     {
-        if !bundle.ok_at(at) {
-            return self.refused_booking(units::refusal::BUNDLE);
+        let offer = self.dry_run_kept(at, bundle);
+        let number = offer.refusal(dates);
+        if number != 0 {
+            return self.refused_booking(number);
         }
-        let Run::Sent(send) = self.search(at, bundle) else {
-            return self.refused_booking(units::refusal::NOT_OFFERED);
-        };
-        let contact = self.contact;
-        let offer = contact.answer(send);
-        if !offer.is(dates) {
-            return self.refused_booking(units::refusal::NOT_OFFERED);
-        }
+        let send = dates.send;
         let priority = bundle.priority;
-        self.set(send, Level::of(priority))
+        let done = self.set(send, priority);
+        let left = done.bookings;
+        let mut next = self;
+        next.bookings = left;
+        Booked {
+            number: done.number,
+            manager: next,
+        }
     }
 
     // schedule_tx, with the time that the dry run was asked: 1, 2, 9, then 10.
@@ -226,23 +222,13 @@ impl PrioritySeg {
         self.book_kept(at, bundle, dates)
     }
 
-    // What a booking leaves of the record, on a record that keeps its rules.
-    fn set(self, send: Interval, level: Level) -> Booked
-        requires { ⌜ recordOk self ≡ true ⌝ }
-        ensures { λ r. ⌜ r ≡ bookedOf self send (level .0) ⌝ }
+    // What a booking leaves of the list, on a record that keeps its rules.
+    pub fn set(self, send: Interval, priority: Priority) -> Set
+        requires { ⌜ recordOk self ≡ true ⌝ ∗ ⌜ priority .0 ≤ 127 ⌝ }
+        ensures { λ r. ⌜ r ≡ setList self send (priority .0) ⌝ }
     {
-        let contact = self.contact;
         let bookings = self.bookings;
-        let done = bookings.set(send, level);
-        let number = done.number;
-        let left = done.bookings;
-        Booked {
-            number: number,
-            manager: PrioritySeg {
-                contact: contact,
-                bookings: left,
-            },
-        }
+        bookings.set(send, Level::of(priority))
     }
 
     // The listed segments: 1.

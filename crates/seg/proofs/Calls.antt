@@ -1,26 +1,30 @@
--- Each call, refusal by refusal: what its definition answers where a test is known.
+-- Each call by what its tests tell: the dry run is what is chosen, and a booking goes by that answer.
 use Prim.Native.Nat.{ℕ}
 use mathlib.Core.Bool.{Bool, true, false}
-use mathlib.Core.Path.{_≡_, sym, ap, _∙_}
-use native.Mathlib.Omega.{arith}
+use mathlib.Core.Path.{_≡_, refl, sym, ap, _∙_}
+use mathlib.Core.List.{List}
 use Rattle.units.specs.declared.Date.{Date}
-use Rattle.units.specs.declared.Interval.{Interval}
 use Rattle.units.specs.declared.TxData.{TxData}
 use Rattle.units.specs.declared.Bundle.{Bundle}
 use Rattle.units.specs.declared.Offer.{Offer}
+use Rattle.units.specs.Logic.{unless}
 use Rattle.units.specs.Limits.{bundleOk}
-use Rattle.units.specs.Answer.{refused, offers}
+use Rattle.units.specs.Answer.{refused, offers, refusalOf}
 use Rattle.units.proofs.Logic.{unless-go, unless-stop}
-use Rattle.segmentation.specs.Delay.{answerWith}
+use Rattle.units.proofs.Loads.{asked-load, load}
+use Rattle.segmentation.specs.declared.DelaySegment.{DelaySegment}
 use Rattle.contact.specs.Record.{delayList}
-use Rattle.contact.proofs.Offers.{refused-offers}
 use Rattle.free_list.specs.declared.Found.{Found}
 use Rattle.free_list.specs.declared.Found.the-variants.{At, None}
+use Rattle.free_list.specs.Granted.{Inside, noneChosen, chosenAt, chosenIn}
+use Rattle.free_list.proofs.ByChoice.{chosen-stop, chosen-found as by-found, table, table-refused, table-fits, table-found, table-done}
 use Rattle.seg.specs.declared.FreeVolume.{FreeVolume}
 use Rattle.seg.specs.declared.Booked.{Booked}
 use Rattle.seg.specs.Record.{recordOk}
 use Rattle.seg.specs.DryRun.{dryRunOf, foundOf, answerTo}
 use Rattle.seg.specs.Book.{bookOf, bookedOf, bookedAt, refusedBooking}
+use Rattle.seg.specs.Granted.{chosenOf}
+use Rattle.seg.proofs.Facts.{facts, cut-asks}
 
 module _ (r : FreeVolume) (at : Date) (b : Bundle) where
   pub dry-record : recordOk r ≡ false → dryRunOf r at b ≡ refused 1
@@ -31,35 +35,63 @@ module _ (r : FreeVolume) (at : Date) (b : Bundle) where
   unfolding bookOf
   book-record d e = unless-stop _ _ _ e
 
+  abbrev fits : Bool
+  fits = bundleOk at b
+
+  abbrev delays : List DelaySegment
+  delays = delayList (r .contact)
+
+  abbrev found : Found
+  found = foundOf r (at .0) (b .size .0)
+
+  pub chosen-bundle : bundleOk at b ≡ false → chosenOf r at b ≡ noneChosen 2
+  unfolding chosenOf
+  chosen-bundle e = chosen-stop fits delays found e
+
+  pub chosen-as : {f : Found} → bundleOk at b ≡ true → foundOf r (at .0) (b .size .0) ≡ f → chosenOf r at b ≡ chosenAt (delayList (r .contact)) f
+  unfolding chosenOf
+  chosen-as q e = by-found fits delays found q e
+
   module _ (ok : recordOk r ≡ true) where
-    pub dry-bundle : bundleOk at b ≡ false → dryRunOf r at b ≡ refused 2
-    unfolding dryRunOf
-    dry-bundle e = unless-go _ _ _ ok ∙ unless-stop _ _ _ e
+    pub chosen-offer : chosenOf r at b .offer ≡ dryRunOf r at b
+    unfolding chosenOf dryRunOf
+    chosen-offer = same-offer fits found ∙ sym (unless-go _ _ _ ok)
+      where
+        same-offer : (c : Bool) (f : Found) → chosenIn c delays f .offer ≡ unless c (refused 2) (answerTo r f)
+        same-offer true (At i send) = refl
+        same-offer true None = refl
+        same-offer false f = refl
 
-    pub book-bundle : (d : TxData) → bundleOk at b ≡ false → bookOf r at b d ≡ refusedBooking 2 r
-    unfolding bookOf
-    book-bundle d e = unless-go _ _ _ ok ∙ unless-stop _ _ _ e
+    module _ (d : TxData) where
+      abbrev refuse : ℕ → Booked
+      refuse n = refusedBooking n r
 
-    module _ (fits : bundleOk at b ≡ true) where
-      pub dry-is : dryRunOf r at b ≡ answerTo r (foundOf r (at .0) (b .size .0))
-      unfolding dryRunOf
-      dry-is = unless-go _ _ _ ok ∙ unless-go _ _ _ fits
+      abbrev done : Found → Booked
+      done f = bookedAt r f (b .size .0)
 
-      pub dry-none : foundOf r (at .0) (b .size .0) ≡ None → dryRunOf r at b ≡ refused 7
-      dry-none e = dry-is ∙ ap (answerTo r) e
+      book-is : bookOf r at b d ≡ table fits delays found d refuse done
+      unfolding bookOf chosenOf
+      book-is =
+          unless-go _ _ _ ok
+          ∙ ap (λ (o : Offer). unless fits (refuse 2) (unless (offers o d) (refuse 9) (done found))) (sym chosen-offer)
 
-      pub dry-at : (i : ℕ) (send : Interval) → foundOf r (at .0) (b .size .0) ≡ At i send → dryRunOf r at b ≡ answerWith (delayList (r .contact)) send
-      dry-at i send e = dry-is ∙ ap (answerTo r) e
+      pub chosen-refused : (refusalOf (chosenOf r at b .offer) d ≡ 0 → ⊥) → bookOf r at b d ≡ refusedBooking (refusalOf (chosenOf r at b .offer) d) r
+      unfolding chosenOf
+      chosen-refused some = book-is ∙ table-refused fits delays found d refuse done some
 
-      pub book-other : (d : TxData) → offers (dryRunOf r at b) d ≡ false → bookOf r at b d ≡ refusedBooking 9 r
-      unfolding bookOf
-      book-other d e = unless-go _ _ _ ok ∙ unless-go _ _ _ fits ∙ unless-stop _ _ _ e
+      module _ (none : refusalOf (chosenOf r at b .offer) d ≡ 0) where
+        pub chosen-fits : bundleOk at b ≡ true
+        unfolding chosenOf
+        chosen-fits = table-fits fits delays found d refuse done none
 
-      pub book-none : (d : TxData) → foundOf r (at .0) (b .size .0) ≡ None → bookOf r at b d ≡ refusedBooking 9 r
-      book-none d e = book-other d (ap (λ (o : Offer). offers o d) (dry-none e) ∙ refused-offers 7 d (λ z. omega arith))
+        -- the dates send what the search found
+        pub chosen-found : foundOf r (at .0) (b .size .0) ≡ At (chosenOf r at b .place) (d .send)
+        unfolding chosenOf
+        chosen-found = table-found fits delays found d refuse done none
 
-      pub book-at : (d : TxData) (i : ℕ) (send : Interval) → foundOf r (at .0) (b .size .0) ≡ At i send → offers (dryRunOf r at b) d ≡ true
-          → bookOf r at b d ≡ bookedOf r i send (b .size .0)
-      unfolding bookOf
-      book-at d i send e o =
-          unless-go _ _ _ ok ∙ unless-go _ _ _ fits ∙ unless-go _ _ _ o ∙ ap (λ (f : Found). bookedAt r f (b .size .0)) e
+        pub chosen-done : (bookOf r at b d ≡ bookedOf r (chosenOf r at b .place) (d .send) (b .size .0)) × Inside (r .free) (chosenOf r at b .place) (b .size .0)
+        unfolding chosenOf
+        chosen-done = (
+          book-is ∙ table-done fits delays found d refuse done none,
+          cut-asks r (facts r ok) (at .0) (b .size .0) (load b (asked-load at b chosen-fits) .some) (chosenOf r at b .place) (d .send) chosen-found,
+        )

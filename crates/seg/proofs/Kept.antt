@@ -12,24 +12,21 @@ use Rattle.units.specs.declared.Date.{Date}
 use Rattle.units.specs.declared.Interval.{Interval}
 use Rattle.units.specs.declared.TxData.{TxData}
 use Rattle.units.specs.declared.Bundle.{Bundle}
-use Rattle.units.specs.declared.Offer.{Offer}
 use Rattle.units.specs.Logic.{unless}
-use Rattle.units.specs.Limits.{bundleOk}
-use Rattle.units.specs.Answer.{offers}
+use Rattle.units.specs.Answer.{refusalOf}
+use Rattle.units.proofs.Numbers.{eq-or-ne}
 use Rattle.units.proofs.Loads.{asked-load, load}
 use Rattle.segmentation.specs.declared.RateSegment.{RateSegment}
 use Rattle.segmentation.specs.declared.DelaySegment.{DelaySegment}
 use Rattle.segmentation.specs.Capacity.{capacity, topOf}
 use Rattle.segmentation.proofs.Capacity.{total-is}
 use Rattle.contact.specs.declared.Opened.{Opened as ContactOpened}
-use Rattle.contact.specs.Record.{contactOk, ratesOf, delayList}
+use Rattle.contact.specs.Record.{contactOk, ratesOf}
 use Rattle.contact.specs.Open.{totalOf, contactOf, openContact}
-use Rattle.contact.proofs.Sound.{Sound, sound}
+use Rattle.contact.proofs.Sound.{sound}
 use Rattle.contact.proofs.Fresh.{opened-ok, opened-total}
 use Rattle.contact.proofs.Refusals.{opened-is}
-use Rattle.contact.proofs.Offers.{offers-send}
-use Rattle.free_list.specs.declared.Found.{Found}
-use Rattle.free_list.specs.declared.Found.the-variants.{At, None}
+use Rattle.free_list.specs.declared.Found.the-variants.{At}
 use Rattle.free_list.specs.Cut.{listed, listIn, cutOf, cutList, wholeWindow}
 use Rattle.free_list.proofs.ListedLaws.{Listed}
 use Rattle.free_list.proofs.Offered.{offered-at}
@@ -39,11 +36,12 @@ use Rattle.seg.specs.declared.FreeVolume.{FreeVolume}
 use Rattle.seg.specs.declared.Opened.{Opened}
 use Rattle.seg.specs.declared.Booked.{Booked}
 use Rattle.seg.specs.Record.{recordOk}
-use Rattle.seg.specs.Open.{refusedOpening, openedOf, openOf}
-use Rattle.seg.specs.DryRun.{dryRunOf, foundOf}
+use Rattle.seg.specs.Open.{refusedOpening, openOf}
+use Rattle.seg.specs.DryRun.{foundOf}
 use Rattle.seg.specs.Book.{bookOf, bookedOf, refusedBooking}
-use Rattle.seg.proofs.Facts.{Facts, facts, record-kept, found-offered}
-use Rattle.seg.proofs.Calls.{dry-at, book-bundle, book-other, book-none, book-at}
+use Rattle.seg.specs.Granted.{chosenOf}
+use Rattle.seg.proofs.Facts.{facts, record-kept, found-offered}
+use Rattle.seg.proofs.Calls.{chosen-refused, chosen-fits, chosen-found, chosen-done}
 
 -- The opening.
 abbrev doneOf : Interval → ContactOpened → Opened
@@ -104,47 +102,36 @@ module _ (r : FreeVolume) (at : Date) (b : Bundle) (d : TxData) (ok : recordOk r
   abbrev booked : Booked
   booked = bookOf r at b d
 
-  module _ (fits : bundleOk at b ≡ true) (i : ℕ) (send : Interval) (h : foundOf r (at .0) (b .size .0) ≡ At i send) where
-    at-place : offers (dryRunOf r at b) d ≡ true → (Refused r booked) ⊎ (Accepted r at b d booked)
-    at-place o =
-        let v = b .size .0 in
-        let l = ratesOf (r .contact) in
-        let same : send ≡ d .send = offers-send (delayList (r .contact)) send d (rw (dry-at r at b ok fits i send h) at o) in
-        let f : foundOf r (at .0) v ≡ At i (d .send) = h ∙ ap (λ (x : Interval). At i x) same in
-        let is : booked ≡ bookedOf r i (d .send) v = book-at r at b ok fits d i (d .send) f o in
-        ⊎-elim
-        (λ (z : cutList l (r .free) i (d .send .start .0) (d .send .end .0) v .number ≡ 0).
-        inr (record {
-          some = load b (asked-load at b fits) .some;
-          place = i;
-          found = f;
-          few = cut-few l (r .free) i (d .send .start .0) (d .send .end .0) v z;
-          number = ap (λ (x : Booked). x .number) is ∙ z;
-          manager = ap (λ (x : Booked). x .manager) is ∙ ap (λ x. record { contact = r .contact; free = x }) (cut-list l (r .free) i (d .send .start .0) (d .send .end .0) v z);
-        }))
-        (λ (z : cutList l (r .free) i (d .send .start .0) (d .send .end .0) v .number ≡ 10).
-        inl (record {
-          number = λ y. omega (arith, y, z, ap (λ (x : Booked). x .number) is);
-          same = ap (λ (x : Booked). x .manager) is ∙ ap (λ x. record { contact = r .contact; free = x }) (cut-refused l (r .free) i (d .send .start .0) (d .send .end .0) v (λ y. omega arith));
-        }))
-        (cut-number l (r .free) i (d .send .start .0) (d .send .end .0) v)
-
-  offered-go : bundleOk at b ≡ true → (i : ℕ) (send : Interval) → foundOf r (at .0) (b .size .0) ≡ At i send → (c : Bool) → offers (dryRunOf r at b) d ≡ c
-      → (Refused r booked) ⊎ (Accepted r at b d booked)
-  offered-go fits i send h true o = at-place fits i send h o
-  offered-go fits i send h false o = inl (refuse 9 r booked (λ z. omega arith) (book-other r at b ok fits d o))
-
-  found-go : bundleOk at b ≡ true → (f : Found) → foundOf r (at .0) (b .size .0) ≡ f → (Refused r booked) ⊎ (Accepted r at b d booked)
-  found-go fits (At i send) h = offered-go fits i send h (offers (dryRunOf r at b) d) refl
-  found-go fits None h = inl (refuse 9 r booked (λ z. omega arith) (book-none r at b ok fits d h))
-
-  bundle-go : (c : Bool) → bundleOk at b ≡ c → (Refused r booked) ⊎ (Accepted r at b d booked)
-  bundle-go true fits = found-go fits (foundOf r (at .0) (b .size .0)) refl
-  bundle-go false e = inl (refuse 2 r booked (λ z. omega arith) (book-bundle r at b ok d e))
+  at-place : refusalOf (chosenOf r at b .offer) d ≡ 0 → (Refused r booked) ⊎ (Accepted r at b d booked)
+  at-place none =
+      let v = b .size .0 in
+      let l = ratesOf (r .contact) in
+      let i = chosenOf r at b .place in
+      let is : booked ≡ bookedOf r i (d .send) v = chosen-done r at b ok d none .0 in
+      ⊎-elim
+      (λ (z : cutList l (r .free) i (d .send .start .0) (d .send .end .0) v .number ≡ 0).
+      inr (record {
+        some = load b (asked-load at b (chosen-fits r at b ok d none)) .some;
+        place = i;
+        found = chosen-found r at b ok d none;
+        few = cut-few l (r .free) i (d .send .start .0) (d .send .end .0) v z;
+        number = ap (λ (x : Booked). x .number) is ∙ z;
+        manager = ap (λ (x : Booked). x .manager) is ∙ ap (λ x. record { contact = r .contact; free = x }) (cut-list l (r .free) i (d .send .start .0) (d .send .end .0) v z);
+      }))
+      (λ (z : cutList l (r .free) i (d .send .start .0) (d .send .end .0) v .number ≡ 10).
+      inl (record {
+        number = λ y. omega (arith, y, z, ap (λ (x : Booked). x .number) is);
+        same = ap (λ (x : Booked). x .manager) is ∙ ap (λ x. record { contact = r .contact; free = x }) (cut-refused l (r .free) i (d .send .start .0) (d .send .end .0) v (λ y. omega arith));
+      }))
+      (cut-number l (r .free) i (d .send .start .0) (d .send .end .0) v)
 
   -- a booking is refused, and the record is the one that came; or the offer is cut out of the free list
   pub book-cases : (Refused r booked) ⊎ (Accepted r at b d booked)
-  book-cases = bundle-go (bundleOk at b) refl
+  book-cases =
+      ⊎-elim
+      at-place
+      (λ (some : refusalOf (chosenOf r at b .offer) d ≡ 0 → ⊥). inl (refuse _ r booked some (chosen-refused r at b ok d some)))
+      (eq-or-ne (refusalOf (chosenOf r at b .offer) d) 0)
 
   -- no call ever meets refusal 1 after a fresh opening
   pub book-keeps : recordOk (booked .manager) ≡ true

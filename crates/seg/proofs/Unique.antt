@@ -6,16 +6,19 @@ use Rattle.units.specs.declared.Date.{Date}
 use Rattle.units.specs.declared.Interval.{Interval}
 use Rattle.units.specs.declared.TxData.{TxData}
 use Rattle.units.specs.declared.Bundle.{Bundle}
+use Rattle.units.specs.declared.Volume.{Volume}
 use Rattle.units.proofs.Determined.{Determined}
 use Rattle.segmentation.specs.declared.RateSegment.{RateSegment}
 use Rattle.segmentation.specs.declared.DelaySegment.{DelaySegment}
 use Rattle.seg.specs.declared.FreeVolume.{FreeVolume}
 use Rattle.seg.proofs.FreeVolume.open.Reads as open-reads
 use Rattle.seg.proofs.FreeVolume.ok.Reads as ok-reads
+use Rattle.seg.proofs.FreeVolume.chosen.Reads as chosen-reads
 use Rattle.seg.proofs.FreeVolume.dry_run_kept.Reads as dry-run-kept-reads
 use Rattle.seg.proofs.FreeVolume.dry_run.Reads as dry-run-reads
 use Rattle.seg.proofs.FreeVolume.book_kept.Reads as book-kept-reads
 use Rattle.seg.proofs.FreeVolume.book.Reads as book-reads
+use Rattle.seg.proofs.FreeVolume.cut.Reads as cut-reads
 use Rattle.seg.proofs.FreeVolume.list.Reads as list-reads
 
 pub open-unique : (w : Interval) (rates : List RateSegment) (m : ℕ) (delays : List DelaySegment) (k : ℕ) → Determined (open-reads.Post tt (w, (rates, (m, (delays, (k, tt))))))
@@ -24,6 +27,9 @@ open-unique w rates m delays k r q x y f g = f ∙ sym g
 module _ (self : FreeVolume) where
   pub ok-unique : Determined (ok-reads.Post tt (self, tt))
   ok-unique r q x y f g = f ∙ sym g
+
+  pub chosen-unique : (at : Date) (b : Bundle) → Determined (chosen-reads.Post tt (self, (at, (b, tt))))
+  chosen-unique at b r q x y f g = f ∙ sym g
 
   pub dry-run-kept-unique : (at : Date) (b : Bundle) → Determined (dry-run-kept-reads.Post tt (self, (at, (b, tt))))
   dry-run-kept-unique at b r q x y f g = f ∙ sym g
@@ -36,6 +42,9 @@ module _ (self : FreeVolume) where
 
   pub book-unique : (at : Date) (b : Bundle) (d : TxData) → Determined (book-reads.Post tt (self, (at, (b, (d, tt)))))
   book-unique at b d r q x y f g = f ∙ sym g
+
+  pub cut-unique : (place : ℕ) (send : Interval) (size : Volume) → Determined (cut-reads.Post tt (self, (place, (send, (size, tt)))))
+  cut-unique place send size r q x y f g = f ∙ sym g
 
   pub list-unique : Determined (list-reads.Post tt (self, tt))
   list-unique r q x y f g = f ∙ sym g

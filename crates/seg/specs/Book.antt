@@ -20,10 +20,14 @@ use Rattle.seg.specs.DryRun.{dryRunOf, foundOf}
 abbrev pub refusedBooking : ℕ → FreeVolume → Booked
 refusedBooking n r = record { number = n; manager = r }
 
+-- what a booking leaves of the record's list, or 10 and the list as it came
+abbrev pub cutFree : FreeVolume → ℕ → Interval → ℕ → Cut
+cutFree r i send v = cutList (ratesOf (r .contact)) (r .free) i (send .start .0) (send .end .0) v
+
 -- the record with the segment at a place cut, or 10 and the record as it came
 abbrev pub bookedOf : FreeVolume → ℕ → Interval → ℕ → Booked
 bookedOf r i send v =
-    let done : Cut = cutList (ratesOf (r .contact)) (r .free) i (send .start .0) (send .end .0) v in
+    let done : Cut = cutFree r i send v in
     record { number = done .number; manager = record { contact = r .contact; free = done .list } }
 
 -- the cut at what the dry run found

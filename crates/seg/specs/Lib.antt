@@ -3,3 +3,4 @@ pub mod Open
 pub mod DryRun
 pub mod Book
 pub mod List
+pub mod Granted

@@ -1,5 +1,7 @@
 // The free-volume manager (seg.rs: SegmentationManager): open, dry run, book, list.
 use contact::Contact;
+use free_list::Chosen;
+use free_list::Cut;
 use free_list::Found;
 use free_list::FreeList;
 use segmentation::DelaySegment;
@@ -12,13 +14,13 @@ use units::TxData;
 use units::Volume;
 ghost use mathlib.Core.Path.{_≡_};
 ghost use mathlib.Core.Bool.{true};
-ghost use Prim.Native.Nat.{_<_};
 ghost use Rattle.free_list.specs.Granted.{Inside};
 ghost use Rattle.seg.specs.Open.{openOf, refusedOpening};
 ghost use Rattle.seg.specs.Record.{recordOk};
-ghost use Rattle.seg.specs.DryRun.{dryRunOf, foundOf};
-ghost use Rattle.seg.specs.Book.{bookOf, bookedOf, refusedBooking};
+ghost use Rattle.seg.specs.DryRun.{dryRunOf};
+ghost use Rattle.seg.specs.Book.{bookOf, cutFree, refusedBooking};
 ghost use Rattle.seg.specs.List.{listOf};
+ghost use Rattle.seg.specs.Granted.{chosenOf};
 
 pub struct FreeVolume {
     pub contact: Contact,
@@ -121,11 +123,14 @@ impl FreeVolume {
         free_list::unused(segments, n)
     }
 
-    // The search of a dry run, on a record that keeps its rules.
-    fn search(self, at: Date, size: Volume) -> Found
-        requires { ⌜ recordOk self ≡ true ⌝ ∗ ⌜ 0 < size .0 ⌝ }
-        ensures { λ r. ⌜ r ≡ foundOf self (at .0) (size .0) ⌝ }
+    // What a dry run finds on a record that keeps its rules: its answer, and where it comes from.
+    pub fn chosen(self, at: Date, bundle: Bundle) -> Chosen
+        requires { ⌜ recordOk self ≡ true ⌝ }
+        ensures { λ r. ⌜ r ≡ chosenOf self at bundle ⌝ }
     {
+        if !bundle.ok_at(at) {
+            return Chosen::refused(units::refusal::BUNDLE);
+        }
         let contact = self.contact;
         let free = self.free;
         let window = contact.window;
@@ -133,23 +138,32 @@ impl FreeVolume {
         let m = contact.rate_count;
         let segments = free.segments;
         let n = free.count;
-        free_list::find_offer(rates, m, segments, n, window, at, size)
+        let size = bundle.size;
+        let Found::At { place, send } = free_list::find_offer(
+            rates,
+            m,
+            segments,
+            n,
+            window,
+            at,
+            size,
+        ) else {
+            return Chosen::refused(units::refusal::NO_OFFER);
+        };
+        let offer = contact.answer(send);
+        Chosen {
+            offer: offer,
+            place: place,
+        }
     }
 
-    // The dry run on a record that keeps its rules, without testing it again: for a caller who holds such a record.
+    // The dry run on such a record, without testing it again: for a caller who holds one.
     pub fn dry_run_kept(self, at: Date, bundle: Bundle) -> Offer
         requires { ⌜ recordOk self ≡ true ⌝ }
         ensures { λ r. ⌜ r ≡ dryRunOf self at bundle ⌝ }
     {
-        if !bundle.ok_at(at) {
-            return Offer::refused(units::refusal::BUNDLE);
-        }
-        let size = bundle.size;
-        let Found::At { place: _, send } = self.search(at, size) else {
-            return Offer::refused(units::refusal::NO_OFFER);
-        };
-        let contact = self.contact;
-        contact.answer(send)
+        let c = self.chosen(at, bundle);
+        c.offer
     }
 
     // dry_run_tx: 1, 2, then 7 or 8.
@@ -167,19 +181,23 @@ impl FreeVolume {
         requires { ⌜ recordOk self ≡ true ⌝ }
         ensures { λ r. ⌜ r ≡ bookOf self at bundle dates ⌝ }
     {
-        if !bundle.ok_at(at) {
-            return self.refused_booking(units::refusal::BUNDLE);
+        let c = self.chosen(at, bundle);
+        let offer = c.offer;
+        let place = c.place;
+        let number = offer.refusal(dates);
+        if number != 0 {
+            return self.refused_booking(number);
         }
+        let send = dates.send;
         let size = bundle.size;
-        let Found::At { place, send } = self.search(at, size) else {
-            return self.refused_booking(units::refusal::NOT_OFFERED);
-        };
-        let contact = self.contact;
-        let offer = contact.answer(send);
-        if !offer.is(dates) {
-            return self.refused_booking(units::refusal::NOT_OFFERED);
+        let done = self.cut(place, send, size);
+        let left = done.list;
+        let mut next = self;
+        next.free = left;
+        Booked {
+            number: done.number,
+            manager: next,
         }
-        self.cut(place, send, size)
     }
 
     // schedule_tx, with the time that the dry run was asked: 1, 2, 9, then 10.
@@ -192,25 +210,16 @@ impl FreeVolume {
         self.book_kept(at, bundle, dates)
     }
 
-    // What a booking leaves of the record, on a record that keeps its rules.
-    fn cut(self, place: usize, send: Interval, size: Volume) -> Booked
+    // What a booking leaves of the list, on a record that keeps its rules.
+    pub fn cut(self, place: usize, send: Interval, size: Volume) -> Cut
         requires { ⌜ recordOk self ≡ true ⌝ ∗ ⌜ Inside (self .free) place (size .0) ⌝ }
-        ensures { λ r. ⌜ r ≡ bookedOf self place send (size .0) ⌝ }
+        ensures { λ r. ⌜ r ≡ cutFree self place send (size .0) ⌝ }
     {
         let contact = self.contact;
         let rates = contact.rates;
         let m = contact.rate_count;
         let free = self.free;
-        let done = free.cut(rates, m, place, send, size);
-        let number = done.number;
-        let left = done.list;
-        Booked {
-            number: number,
-            manager: FreeVolume {
-                contact: contact,
-                free: left,
-            },
-        }
+        free.cut(rates, m, place, send, size)
     }
 
     // The listed segments: 1.

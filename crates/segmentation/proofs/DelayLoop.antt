@@ -9,7 +9,8 @@ use borrow.Author.Tests.{le-leb, lt-leb}
 use Rattle.units.proofs.Numbers.{le-or-lt}
 use Rattle.segmentation.specs.declared.DelaySegment.{DelaySegment}
 use Rattle.segmentation.specs.declared.Delays.the-variants.{Of, None}
-use Rattle.segmentation.specs.Delay.{fromDate, heads, delaysOf, Placed}
+use Rattle.segmentation.specs.Delay.{fromDate, heads, delaysOf}
+use Rattle.segmentation.specs.Granted.{Placed}
 
 pub from-none : (t : ℕ) → fromDate [] t ≡ []
 unfolding fromDate

@@ -14,7 +14,7 @@ use Rattle.segmentation.specs.declared.VolumeSegment.{VolumeSegment}
 use Rattle.segmentation.specs.declared.DelaySegment.{DelaySegment}
 use Rattle.segmentation.specs.declared.End.{End}
 use Rattle.segmentation.specs.declared.Delays.{Delays}
-use Rattle.segmentation.specs.Delay.{Placed}
+use Rattle.segmentation.specs.Granted.{Placed}
 use Rattle.segmentation.proofs.VolumeSegment.carried.Kinds as carried-kinds
 use Rattle.segmentation.proofs.VolumeSegment.carried.Reads as carried-reads
 use Rattle.segmentation.proofs.VolumeSegment.sent.Kinds as sent-kinds

@@ -1,9 +1,7 @@
 -- 01, "Rounding and lookup", Delay; and the number and dates of an answer whose send interval is found.
-use Prim.Native.Nat.{ℕ, _≤_}
+use Prim.Native.Nat.{ℕ}
 use mathlib.Core.List.{List, [], _∷_}
-use mathlib.Core.Path.{_≡_}
 use lib.Dec.{leb}
-use lib.ListN.{drop}
 use Rattle.units.specs.declared.Interval.{Interval}
 use Rattle.units.specs.declared.Offer.{Offer}
 use Rattle.units.specs.Logic.{pick}
@@ -34,8 +32,3 @@ answerOf s e None = refused 8
 -- the answer with a send interval: its four dates, or 8
 abbrev pub answerWith : List DelaySegment → Interval → Offer
 answerWith l send = answerOf (send .start .0) (send .end .0) (delaysOf l (send .start .0) (send .end .0))
-
--- what a lookup from a place on finds, as a place (`delay_place`)
-pub record Placed (l : List DelaySegment) (count from t r : ℕ) : Type 0 where
-  pub low : r ≤ count
-  pub is : drop r l ≡ fromDate (drop from l) t

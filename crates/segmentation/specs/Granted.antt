@@ -2,11 +2,13 @@
 use Prim.Native.Nat.{ℕ, _+_, _-_, _*_, _<_, _≤_, _^_}
 use mathlib.Core.Path.{_≡_}
 use mathlib.Core.List.{List, [], _∷_}
+use lib.ListN.{drop}
 use Rattle.segmentation.specs.declared.VolumeSegment.{VolumeSegment}
 use Rattle.segmentation.specs.declared.DelaySegment.{DelaySegment}
 use Rattle.segmentation.specs.declared.Delays.{Delays}
 use Rattle.segmentation.specs.declared.Delays.the-variants.{Of, None}
 use Rattle.segmentation.specs.Capacity.{rateOf}
+use Rattle.segmentation.specs.Delay.{fromDate}
 
 -- the segment is not empty, is within the limits, and holds its rate times its length
 pub record SegOk (s : VolumeSegment) : Type 0 where
@@ -41,3 +43,8 @@ Short None = Unit
 unfoldable pub AllShort : List DelaySegment → Type 0
 AllShort [] = Unit
 AllShort (d ∷ l) = (d .delay .0 ≤ 2 ^ 40) × (AllShort l)
+
+-- what a lookup from a place on finds, as a place (`delay_place`)
+pub record Placed (l : List DelaySegment) (count from t r : ℕ) : Type 0 where
+  pub low : r ≤ count
+  pub is : drop r l ≡ fromDate (drop from l) t

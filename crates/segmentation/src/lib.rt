@@ -12,8 +12,8 @@ ghost use lib.ListN.{length, take, drop};
 ghost use mathlib.Core.List.{List, [], _∷_};
 ghost use Rattle.segmentation.specs.Capacity.{rateOf, capacity};
 ghost use Rattle.segmentation.specs.End.{byDeadline, endOf};
-ghost use Rattle.segmentation.specs.Delay.{delaysOf, answerOf, answerWith, Placed};
-ghost use Rattle.segmentation.specs.Granted.{SegOk, Covers, Runs, Short, AllShort};
+ghost use Rattle.segmentation.specs.Delay.{delaysOf, answerOf, answerWith};
+ghost use Rattle.segmentation.specs.Granted.{SegOk, Covers, Runs, Short, AllShort, Placed};
 
 // Segment<DataRate>: what an opening is given.
 pub struct RateSegment {

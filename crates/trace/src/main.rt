@@ -1,11 +1,15 @@
 // The trace program: reads frames from standard input, one a line, and writes an answer line for each. Bounded memory: of a line that is too long, only as much is kept as tells so.
 use frames::NO_FRAME;
+use frames::frame::Frame;
 use held::Held;
 use held::Kind;
 use text::LINE;
-ghost use Prim.Native.Nat.{_<_, _≤_};
+ghost use mathlib.Core.Path.{_≡_};
+ghost use mathlib.Core.Bool.{true};
+ghost use Prim.Native.Nat.{_+_, _<_, _≤_};
 ghost use lib.ListN.{length};
 ghost use Rattle.io.specs.Counts.{Counts};
+ghost use Rattle.held.specs.Rules.{heldOk};
 
 // What goes from one read to the next: how much of an unfinished line is kept, how much of the reply waits, and what is held.
 struct Carry {
@@ -21,12 +25,43 @@ fn fit(n: usize, buf: &[u8]) -> usize
     if n <= buf.len() { n } else { buf.len() }
 }
 
+// Is there a line end in the 16 bytes from a place on? With no way out before the last, so that all are tested at a time.
+fn ends_soon(chunk: &[u8], from: usize) -> bool
+    requires { ⌜ from + 16 ≤ length (now chunk) ⌝ }
+{
+    let mut found = false;
+    let mut i: usize = 0;
+    while i < 16 {
+        let x = chunk[from + i];
+        found = found | (x == 10);
+        i += 1;
+    }
+    found
+}
+
+// From a place on, past as many times 16 bytes as have no line end.
+fn skip(chunk: &[u8], from: usize) -> usize
+    requires { ⌜ from ≤ length (now chunk) ⌝ }
+    ensures { λ r. ⌜ from ≤ r ⌝ ∗ ⌜ r ≤ length (now (chunk .entry)) ⌝ }
+{
+    let mut i = from;
+    loop {
+        if chunk.len() - i < 16 {
+            break i;
+        }
+        if ends_soon(chunk, i) {
+            break i;
+        }
+        i += 16;
+    }
+}
+
 // Where the line that starts at a place ends: at its line end, or with the chunk.
 fn line_end(chunk: &[u8], from: usize) -> usize
     requires { ⌜ from ≤ length (now chunk) ⌝ }
     ensures { λ r. ⌜ from ≤ r ⌝ ∗ ⌜ r ≤ length (now (chunk .entry)) ⌝ }
 {
-    let mut i = from;
+    let mut i = skip(chunk, from);
     while i < chunk.len() {
         if chunk[i] == 10 {
             return i;
@@ -55,12 +90,12 @@ fn copy(to: &mut [u8], at: usize, text: &[u8], n: usize) -> usize {
     at + n
 }
 
-// A piece of a line after what is kept already; what has no room is dropped, since the line is too long by then.
+// A piece of a line after what is kept already; what has no room is dropped, since the line is too long by then. The last place is for the line end.
 fn keep(line: &mut [u8], kept: usize, piece: &[u8]) -> usize {
-    if line.len() < kept {
+    if line.len() <= kept {
         return kept;
     }
-    let most = line.len() - kept;
+    let most = line.len() - kept - 1;
     if most < piece.len() {
         return copy(line, kept, piece, most);
     }
@@ -85,33 +120,23 @@ fn room(reply: &[u8], waiting: usize) -> usize {
     0
 }
 
-// A line that came in pieces: its answer waits.
-fn finish(reply: &mut [u8], out: &mut [u8; LINE], line: &[u8], carry: Carry) -> Carry {
-    let held = carry.held;
-    let done = frames::step(out, line, held);
-    let n = done.length;
-    let next = done.held;
-    let waiting = room(reply, carry.waiting);
-    Carry {
-        kept: 0,
-        waiting: copy(reply, waiting, out, n),
-        held: next,
-    }
-}
-
 // The answer waits, and there is room for the next.
 fn say(reply: &mut [u8], waiting: usize, out: &[u8], n: usize) -> usize {
     let more = copy(reply, waiting, out, n);
     room(reply, more)
 }
 
-// All whole lines of a chunk from a place on. What is held stays in one place, since by value it would be copied at every line,
-// and its rules are tested again only where a line replaces it: dry runs and bookings keep them.
+// All whole lines of a chunk from a place on. Each record is a local of its own and is changed where it stands: by value it would be copied at every line.
 fn feed(reply: &mut [u8], out: &mut [u8; LINE], chunk: &[u8], start: usize, first: Carry) -> Carry
-    requires { ⌜ start ≤ length (now chunk) ⌝ }
+    requires { ⌜ start ≤ length (now chunk) ⌝ ∗ ⌜ heldOk (first .held) ≡ true ⌝ }
+    ensures { λ r. ⌜ heldOk (r .held) ≡ true ⌝ }
 {
-    let mut held = first.held;
-    let mut good = held.ok();
+    let held = first.held;
+    let mut kind = held.kind;
+    let mut free = held.free;
+    let mut priority = held.priority;
+    let mut polynomial = held.polynomial;
+    let mut queue = held.queue;
     let mut waiting = first.waiting;
     let mut n = 0;
     let mut from = start;
@@ -122,71 +147,191 @@ fn feed(reply: &mut [u8], out: &mut [u8; LINE], chunk: &[u8], start: usize, firs
         end = line_end(chunk, from);
         waiting = say(reply, waiting, out, n);
         n = 0;
-        if !frames::is_line(line) {
-            n = answer::put_number(out, NO_FRAME);
-            continue;
-        }
-        if good {
-            if frames::booking::fits(line) {
-                let kind = held.kind;
+        match frames::frame::of(line) {
+            Frame::Wrong => {
+                n = answer::put_number(out, NO_FRAME);
+                continue;
+            }
+            Frame::Offer => {
+                let at = layout::date_at(line, 1);
+                let bundle = layout::bundle_at(line, 9);
                 match kind {
                     Kind::Nothing => {
                         n = answer::put_number(out, units::refusal::RECORD);
                         continue;
                     }
                     Kind::Free => {
-                        let r = held.free;
-                        let b = frames::booking::free(line, r);
-                        let m = b.manager;
-                        held.free = m;
-                        n = answer::put_number(out, b.number);
+                        let c = free.chosen(at, bundle);
+                        let o = c.offer;
+                        n = answer::put_offer(out, o);
                         continue;
                     }
                     Kind::Priority => {
-                        let r = held.priority;
-                        let b = frames::booking::priority(line, r);
-                        let m = b.manager;
-                        held.priority = m;
-                        n = answer::put_number(out, b.number);
+                        let o = priority.dry_run_kept(at, bundle);
+                        n = answer::put_offer(out, o);
                         continue;
                     }
                     Kind::Polynomial => {
-                        let r = held.polynomial;
-                        let b = frames::booking::polynomial(line, r);
-                        let m = b.manager;
-                        held.polynomial = m;
-                        n = answer::put_number(out, b.number);
+                        let c = polynomial.chosen(at, bundle);
+                        let o = c.offer;
+                        n = answer::put_offer(out, o);
                         continue;
                     }
                     Kind::Queue => {
-                        let r = held.queue;
-                        let b = frames::booking::queue(line, r);
-                        let m = b.manager;
-                        held.queue = m;
+                        let o = queue.dry_run_kept(at, bundle);
+                        n = answer::put_offer(out, o);
+                        continue;
+                    }
+                }
+            }
+            Frame::Booking => {
+                let at = layout::date_at(line, 1);
+                let bundle = layout::bundle_at(line, 9);
+                let dates = layout::dates_at(line, 18);
+                let send = dates.send;
+                let size = bundle.size;
+                match kind {
+                    Kind::Nothing => {
+                        n = answer::put_number(out, units::refusal::RECORD);
+                        continue;
+                    }
+                    Kind::Free => {
+                        let c = free.chosen(at, bundle);
+                        let o = c.offer;
+                        let refused = o.refusal(dates);
+                        if refused != 0 {
+                            n = answer::put_number(out, refused);
+                            continue;
+                        }
+                        let place = c.place;
+                        let d = free.cut(place, send, size);
+                        let left = d.list;
+                        free.free = left;
+                        n = answer::put_number(out, d.number);
+                        continue;
+                    }
+                    Kind::Priority => {
+                        let o = priority.dry_run_kept(at, bundle);
+                        let refused = o.refusal(dates);
+                        if refused != 0 {
+                            n = answer::put_number(out, refused);
+                            continue;
+                        }
+                        let p = bundle.priority;
+                        let d = priority.set(send, p);
+                        let left = d.bookings;
+                        priority.bookings = left;
+                        n = answer::put_number(out, d.number);
+                        continue;
+                    }
+                    Kind::Polynomial => {
+                        let c = polynomial.chosen(at, bundle);
+                        let o = c.offer;
+                        let refused = o.refusal(dates);
+                        if refused != 0 {
+                            n = answer::put_number(out, refused);
+                            continue;
+                        }
+                        let place = c.place;
+                        let d = polynomial.cut(place, send);
+                        let left = d.list;
+                        polynomial.free = left;
+                        n = answer::put_number(out, d.number);
+                        continue;
+                    }
+                    Kind::Queue => {
+                        let b = queue.book_kept(at, bundle, dates);
+                        queue = b.manager;
                         n = answer::put_number(out, b.number);
                         continue;
                     }
                 }
             }
+            Frame::Queueing => {
+                match kind {
+                    Kind::Nothing => {
+                        n = answer::put_number(out, units::refusal::RECORD);
+                        continue;
+                    }
+                    Kind::Queue => {
+                        let b = frames::queueing::call(line, queue);
+                        queue = b.manager;
+                        n = answer::put_number(out, b.number);
+                        continue;
+                    }
+                    _ => {
+                        n = answer::put_number(out, units::refusal::SELF_UPDATE);
+                        continue;
+                    }
+                }
+            }
+            Frame::Listing => {
+                let h = Held {
+                    kind: kind,
+                    free: free,
+                    priority: priority,
+                    polynomial: polynomial,
+                    queue: queue,
+                };
+                n = frames::calls::list(out, line, h);
+                continue;
+            }
+            Frame::Free => {
+                let o = frames::anew::free(line);
+                let number = o.number;
+                n = answer::put_number(out, number);
+                if number != 0 {
+                    continue;
+                }
+                free = o.manager;
+                kind = Kind::Free;
+                continue;
+            }
+            Frame::Priority => {
+                let o = frames::anew::priority(line);
+                let number = o.number;
+                n = answer::put_number(out, number);
+                if number != 0 {
+                    continue;
+                }
+                priority = o.manager;
+                kind = Kind::Priority;
+                continue;
+            }
+            Frame::Polynomial => {
+                let o = frames::anew::polynomial(line);
+                let number = o.number;
+                n = answer::put_number(out, number);
+                if number != 0 {
+                    continue;
+                }
+                polynomial = o.manager;
+                kind = Kind::Polynomial;
+                continue;
+            }
+            Frame::Queue => {
+                let o = frames::anew::queue(line);
+                let number = o.number;
+                n = answer::put_number(out, number);
+                if number != 0 {
+                    continue;
+                }
+                queue = o.manager;
+                kind = Kind::Queue;
+                continue;
+            }
         }
-        if frames::can_change(line) {
-            let done = frames::change(line, held);
-            let next = done.held;
-            held = next;
-            good = held.ok();
-            n = answer::put_number(out, done.number);
-            continue;
-        }
-        if good {
-            n = frames::kept::show(out, line, held);
-            continue;
-        }
-        n = frames::show(out, line, held);
     }
     Carry {
         kept: from,
         waiting: copy(reply, waiting, out, n),
-        held: held,
+        held: Held {
+            kind: kind,
+            free: free,
+            priority: priority,
+            polynomial: polynomial,
+            queue: queue,
+        },
     }
 }
 
@@ -207,13 +352,33 @@ fn lines(
     start: usize,
     carry: Carry,
 ) -> Carry
-    requires { ⌜ start ≤ length (now chunk) ⌝ }
+    requires { ⌜ start ≤ length (now chunk) ⌝ ∗ ⌜ heldOk (carry .held) ≡ true ⌝ }
+    ensures { λ r. ⌜ heldOk (r .held) ≡ true ⌝ }
 {
     let mut next = feed(reply, out, chunk, start, carry);
     let from = next.kept;
     let n = keep_rest(line, chunk, from);
     next.kept = n;
     next
+}
+
+// A line end behind what is kept; how many bytes that makes.
+fn closed(line: &mut [u8], kept: usize) -> usize {
+    if kept < line.len() {
+        line[kept] = 10;
+        return kept + 1;
+    }
+    line.len()
+}
+
+// What is kept is a whole line.
+fn finish(reply: &mut [u8], out: &mut [u8; LINE], line: &mut [u8], carry: Carry) -> Carry
+    requires { ⌜ heldOk (carry .held) ≡ true ⌝ }
+    ensures { λ r. ⌜ heldOk (r .held) ≡ true ⌝ }
+{
+    let whole = closed(line, carry.kept);
+    let n = fit(whole, line);
+    feed(reply, out, &line[..n], 0, carry)
 }
 
 // The line that was kept is whole now: it is answered, and then the lines after it.
@@ -225,11 +390,11 @@ fn join(
     end: usize,
     carry: Carry,
 ) -> Carry
-    requires { ⌜ end < length (now chunk) ⌝ }
+    requires { ⌜ end < length (now chunk) ⌝ ∗ ⌜ heldOk (carry .held) ≡ true ⌝ }
+    ensures { λ r. ⌜ heldOk (r .held) ≡ true ⌝ }
 {
     let after = end + 1;
-    let n = fit(carry.kept, line);
-    let next = finish(reply, out, &line[..n], carry);
+    let next = finish(reply, out, line, carry);
     lines(reply, out, line, chunk, after, next)
 }
 
@@ -240,7 +405,10 @@ fn take(
     line: &mut [u8],
     chunk: &[u8],
     first: Carry,
-) -> Carry {
+) -> Carry
+    requires { ⌜ heldOk (first .held) ≡ true ⌝ }
+    ensures { λ r. ⌜ heldOk (r .held) ≡ true ⌝ }
+{
     let kept = first.kept;
     if kept == 0 {
         return lines(reply, out, line, chunk, 0, first);
@@ -268,7 +436,10 @@ fn turn(
     out: &mut [u8; LINE],
     line: &mut [u8],
     carry: Carry,
-) -> Outcome {
+) -> Outcome
+    requires { ⌜ heldOk (carry .held) ≡ true ⌝ }
+    ensures { λ r. ⌜ heldOk (r .carry .held) ≡ true ⌝ }
+{
     let got = libc::read(0, chunk);
     if got <= 0 {
         return Outcome { more: false, carry };
@@ -291,7 +462,10 @@ fn run(
     out: &mut [u8; LINE],
     line: &mut [u8],
     first: Carry,
-) -> Carry {
+) -> Carry
+    requires { ⌜ heldOk (first .held) ≡ true ⌝ }
+    ensures { λ r. ⌜ heldOk (r .held) ≡ true ⌝ }
+{
     let mut carry = first;
     let mut more = true;
     let mut turns = u64::MAX;
@@ -308,7 +482,7 @@ fn main() {
     let mut chunk = io::large_buffer();
     let mut reply = io::large_buffer();
     let mut out = [0u8; LINE];
-    let mut line = [0u8; 2049];
+    let mut line = [0u8; 2050];
     let held = Held::nothing();
     let last = run(
         &mut chunk,
@@ -323,8 +497,7 @@ fn main() {
     );
     let kept = last.kept;
     if kept > 0 {
-        let n = fit(kept, &line);
-        let done = finish(&mut reply, &mut out, &line[..n], last);
+        let done = finish(&mut reply, &mut out, &mut line, last);
         let waiting = done.waiting;
         flush(&reply, waiting);
     }

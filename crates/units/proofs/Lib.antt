@@ -12,3 +12,4 @@ pub mod Stores
 pub mod Choice
 pub mod Each
 pub mod Loads
+pub mod Booking

@@ -2,7 +2,7 @@
 ghost use mathlib.Core.Path.{_≡_};
 ghost use Prim.Native.Nat.{_+_, _≤_, _^_, min, max};
 ghost use Rattle.units.specs.Limits.{bundleOk, loadOk, windowOk};
-ghost use Rattle.units.specs.Answer.{refused, sameDates, offers};
+ghost use Rattle.units.specs.Answer.{refused, sameDates, offers, refusalOf};
 
 pub mod refusal;
 
@@ -145,6 +145,19 @@ impl Offer {
             return false;
         }
         own.same(dates)
+    }
+
+    // Why a booking with these dates is refused, where this is what the dry run answers: 2, else 9; 0 where it is not refused.
+    pub fn refusal(self, dates: TxData) -> u8
+        ensures { λ r. ⌜ r ≡ refusalOf self dates ⌝ }
+    {
+        if self.number == refusal::BUNDLE {
+            return refusal::BUNDLE;
+        }
+        if !self.is(dates) {
+            return refusal::NOT_OFFERED;
+        }
+        0
     }
 
     pub fn refused(number: u8) -> Offer

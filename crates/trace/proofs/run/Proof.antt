@@ -1,13 +1,15 @@
 -- `trace::run` ends: its turns are counted down.
 use mathlib.Core.Path.{_≡_}
+use mathlib.Core.Bool.{true}
 use lib.ListN.{length}
+use Rattle.held.specs.Rules.{heldOk}
 use borrow.Author.Needs.{needs}
 use Rattle.trace.proofs.run.Statement.{statement}
 use Rattle.trace.proofs.run.Tie as tie
 use Rattle.trace.proofs.turn.Reads as turn-reads
 
 abbrev Inv-loop : tie.InvT-loop
-Inv-loop chunk₀ reply₀ out₀ line₀ carry₀ more₀ turns₀ chunk reply out line carry more turns = (length chunk ≡ length chunk₀) × ((length reply ≡ length reply₀) × (length line ≡ length line₀))
+Inv-loop chunk₀ reply₀ out₀ line₀ carry₀ more₀ turns₀ chunk reply out line carry more turns = ((length chunk ≡ length chunk₀) × (length reply ≡ length reply₀) × (length line ≡ length line₀)) × (heldOk (carry .held) ≡ true)
 
 abbrev μ-loop : tie.MeasureT-loop
 μ-loop chunk₀ reply₀ out₀ line₀ carry₀ more₀ turns₀ chunk reply out line carry more turns = turns

@@ -1,6 +1,6 @@
 -- `frames::opening::polynomial` meets its contract: the line's length first, then what the layout gives is opened and kept.
 use borrow.Author.Needs.{needs}
-use Rattle.frames.specs.Opening.{polynomialFrame, polynomialOpened}
+use Rattle.frames.specs.Opening.{polynomialFrame}
 use Rattle.frames.proofs.Lengths.{line-refused, line-answered}
 use Rattle.frames.proofs.opening.polynomial.Statement.{statement}
 use Rattle.frames.proofs.opening.polynomial.Tie as tie
@@ -15,24 +15,19 @@ returns : tie.Need-returns
 unfolding polynomialFrame
 returns c = line-refused (c .before .before .fits2 .ensures) _ _ (c .before .if1 .taken) (c .refused .ensures)
 
-read-requires : tie.Need-read-requires
-read-requires c κs = search needs
-
-open-requires : tie.Need-open-requires
-open-requires c κs = search needs
+polynomial-requires : tie.Need-polynomial-requires
+polynomial-requires c κs = search needs
 
 kept-requires : tie.Need-kept-requires
 kept-requires c κs = search needs
 
 returns-2 : tie.Need-returns-2
-unfolding polynomialFrame polynomialOpened
+unfolding polynomialFrame
 returns-2 c =
     let o = c .before .before in
-    let f = o .before .before .before .before in
-    line-answered (f .before .before .fits2 .ensures) _ _ (f .before .if1 .left)
-    (rw (c .kept .ensures, o .«open» .ensures, f .read .ensures))
+    line-answered (o .before .before .fits2 .ensures) _ _ (o .before .if1 .left) (rw (c .kept .ensures, o .polynomial .ensures .0))
 
 pub polynomial-spec : {M : Type 1} → statement M
 polynomial-spec =
     tie.close
-    (tie.spec fits-requires refused-requires returns read-requires open-requires kept-requires returns-2)
+    (tie.spec fits-requires refused-requires returns polynomial-requires kept-requires returns-2)

@@ -1,15 +1,31 @@
 -- `FreeList::cut` meets its contract: its three ways are those of the list's cut.
 use borrow.Author.Needs.{needs}
 use mathlib.Core.Path.{_≡_, ap, _∙_}
-use lib.ListN.{length, length-map}
+use native.Mathlib.Omega.{arith}
+use lib.ListN.{length, length-map, set}
 use Rattle.segmentation.specs.declared.VolumeSegment.{VolumeSegment}
-use Rattle.free_list.specs.Granted.{storedOf}
-use Rattle.free_list.proofs.Places.{book-start, book-flat, book-two}
+use Rattle.free_list.specs.Granted.{Inside, leftIn}
+use Rattle.free_list.proofs.Places.{book-start, book-flat, book-full, book-two}
 use Rattle.free_list.proofs.FreeList.cut.Statement.{statement}
 use Rattle.free_list.proofs.FreeList.cut.Tie as tie
 
 size : (c : tie.Start) → length (c .args .self .segments) ≡ 64
 size c = simp length-map at (c .good .0 .1 .1 .0 .1 .0 .1)
+
+-- the start, from the first test and from where the right part is made
+abbrev begin : tie.After-struct-known2 → tie.Start
+begin c = c .before .before .before .before .before .before .before .before
+
+abbrev begin-right : tie.After-stretch2 → tie.Start
+begin-right c = begin (c .before .before .before .before .before .before .before)
+
+inside : (c : tie.Start) → Inside (c .args .self) (c .args .place) (c .args .size .0)
+inside c = c .pre .1 .1
+
+-- what a store of another segment at the place leaves
+stored : (c : tie.Start) (x y : VolumeSegment) → x ≡ y
+    → leftIn (set (c .args .self .segments) (c .args .place) x) (c .args .self .count) ≡ leftIn (set (c .args .self .segments) (c .args .place) y) (c .args .self .count)
+stored c x y e = ap (λ (s : VolumeSegment). leftIn (set (c .args .self .segments) (c .args .place) s) (c .args .self .count)) e
 
 mul-g : tie.Need-mul-g
 mul-g c = search needs
@@ -20,48 +36,81 @@ array-copy-out-g c = search needs
 rest-requires : tie.Need-rest-requires
 rest-requires c κs = search needs
 
-stored-requires : tie.Need-stored-requires
-stored-requires c κs = search needs
+mul-a : tie.Need-mul-a
+mul-a c = search needs
+
+array-set-from-a : tie.Need-array-set-from-a
+array-set-from-a c = search needs
+
+left-requires : tie.Need-left-requires
+left-requires c κs = search needs
 
 returns : tie.Need-returns
 returns c =
-    let then = c .before .before in
-    let a = then .before .before .before .before .before .before .before .before .before in
-    c .stored .ensures
-    ∙ ap (λ (x : VolumeSegment). storedOf (a .args .self) (a .args .place) x) (c .before .rest .ensures)
-    ∙ book-start _ _ _ _ _ _ (size a) (a .pre .1 .1) (then .if1 .taken)
+    let one = c .before .before in
+    let a = begin (one .before) in
+    c .left .ensures ∙ stored a _ _ (c .before .rest .ensures) ∙ book-start _ _ _ _ _ _ (size a) (inside a) (one .if1 .taken)
 
 stretch-requires : tie.Need-stretch-requires
 stretch-requires c κs = search needs
 
-stored-requires-2 : tie.Need-stored-requires-2
-stored-requires-2 c κs = search needs
+mul-a-2 : tie.Need-mul-a-2
+mul-a-2 c = search needs
+
+array-set-from-a-2 : tie.Need-array-set-from-a-2
+array-set-from-a-2 c = search needs
+
+left-requires-2 : tie.Need-left-requires-2
+left-requires-2 c κs = search needs
 
 returns-2 : tie.Need-returns-2
 returns-2 c =
     let two = c .before in
-    let left = two .before .before .before in
-    let one = left .before in
-    let a = one .before .before .before .before .before .before .before .before .before in
-    c .stored2 .ensures
-    ∙ ap (λ (x : VolumeSegment). storedOf (a .args .self) (a .args .place) x) (left .stretch .ensures)
-    ∙ book-flat _ _ _ _ _ _ (size a) (a .pre .1 .1) (one .if1 .left) (two .if2 .taken)
+    let before = two .before .before .before in
+    let one = before .before in
+    let a = begin (one .before) in
+    c .left2 .ensures ∙ stored a _ _ (before .stretch .ensures) ∙ book-flat _ _ _ _ _ _ (size a) (inside a) (one .if1 .left) (two .if2 .taken)
+
+returns-3 : tie.Need-returns-3
+returns-3 c =
+    let two = c .before in
+    let one = two .before .before .before .before in
+    let a = begin (one .before) in
+    book-full _ _ _ _ _ _ (size a) (inside a) (one .if1 .left) (two .if2 .left) (c .if3 .taken)
 
 stretch-requires-2 : tie.Need-stretch-requires-2
 stretch-requires-2 c κs = search needs
 
-cut-in-two-requires : tie.Need-cut-in-two-requires
-cut-in-two-requires c κs = search needs
+add-insert : tie.Need-add-insert
+add-insert c = omega (arith, inside (begin-right c) .at, inside (begin-right c) .few)
 
-returns-3 : tie.Need-returns-3
-returns-3 c =
-    let right = c .before in
-    let two = right .before in
-    let left = two .before .before .before in
-    let one = left .before in
-    let a = one .before .before .before .before .before .before .before .before .before in
-    c .cut-in-two .ensures
-    ∙ rw (left .stretch .ensures, right .stretch2 .ensures) (book-two _ _ _ _ _ _ (size a) (a .pre .1 .1) (one .if1 .left) (two .if2 .left))
+insert-requires : tie.Need-insert-requires
+insert-requires c κs = (omega (arith, inside (begin-right c) .at), c .before .if3 .left)
+
+mul-b : tie.Need-mul-b
+mul-b c = omega (arith, inside (begin-right (c .before)) .at, inside (begin-right (c .before)) .few)
+
+array-set-from-b : tie.Need-array-set-from-b
+array-set-from-b c = omega (arith, inside (begin-right (c .before)) .at, inside (begin-right (c .before)) .few)
+
+add-left : tie.Need-add-left
+add-left c = search needs
+
+left-requires-3 : tie.Need-left-requires-3
+left-requires-3 c κs = search needs
+
+returns-4 : tie.Need-returns-4
+returns-4 c =
+    let more = c .before in
+    let after = more .before in
+    let three = after .before in
+    let two = three .before in
+    let before = two .before .before .before in
+    let one = before .before in
+    let a = begin (one .before) in
+    c .left3 .ensures
+    ∙ rw (more .insert .ensures, before .stretch .ensures, after .stretch2 .ensures)
+    (book-two _ _ _ _ _ _ (size a) (inside a) (one .if1 .left) (two .if2 .left) (three .if3 .left))
 
 pub cut-spec : {M : Type 1} → statement M
 cut-spec =
@@ -70,11 +119,21 @@ cut-spec =
     mul-g
     array-copy-out-g
     rest-requires
-    stored-requires
+    mul-a
+    array-set-from-a
+    left-requires
     returns
     stretch-requires
-    stored-requires-2
+    mul-a-2
+    array-set-from-a-2
+    left-requires-2
     returns-2
+    returns-3
     stretch-requires-2
-    cut-in-two-requires
-    returns-3)
+    add-insert
+    insert-requires
+    mul-b
+    array-set-from-b
+    add-left
+    left-requires-3
+    returns-4)

@@ -1,12 +1,9 @@
--- `legacy::Queue::dequeue` meets its contract: each test that fails has its refusal.
+-- `legacy::Queue::dequeue` meets its contract: the record's test, then the call on a record that keeps its rules.
 use borrow.Author.Needs.{needs}
-use mathlib.Core.Bool.{true}
-use mathlib.Core.Path.{_≡_, sym, _∙_}
-use Rattle.units.specs.Limits.{loadOk}
-use Rattle.units.proofs.Logic.{unless-go, unless-stop}
-use Rattle.units.proofs.Choice.{pick-yes, pick-no, told-yes, told-no}
+use mathlib.Core.Path.{sym, _∙_}
+use Rattle.units.proofs.Logic.{unless-stop}
+use Rattle.units.proofs.Choice.{told-yes, told-no}
 use Rattle.legacy.specs.Queueing.{dequeueOf}
-use Rattle.legacy.specs.Record.{recordOk}
 use Rattle.legacy.proofs.Queue.dequeue.Statement.{statement}
 use Rattle.legacy.proofs.Queue.dequeue.Tie as tie
 
@@ -20,58 +17,11 @@ returns : tie.Need-returns
 unfolding dequeueOf
 returns c = c .refused-queueing .ensures ∙ sym (unless-stop _ _ _ (told-no (c .before .before .ok .ensures) (c .before .if1 .taken)))
 
-kept : (c : tie.Else1) → recordOk (c .before .before .args .self) ≡ true
-kept c = told-yes (c .before .ok .ensures) (c .if1 .left)
-
-ok-requires-2 : tie.Need-ok-requires-2
-ok-requires-2 c κs = search needs
-
-refused-queueing-requires-2 : tie.Need-refused-queueing-requires-2
-refused-queueing-requires-2 c κs = search needs
+dequeue-kept-requires : tie.Need-dequeue-kept-requires
+dequeue-kept-requires c κs = told-yes (c .before .ok .ensures) (c .if1 .left)
 
 returns-2 : tie.Need-returns-2
-unfolding dequeueOf
-returns-2 c =
-    let one = c .before .before .before in
-    c .refused-queueing2 .ensures ∙ sym (unless-go _ _ _ (kept one) ∙ unless-stop _ _ _ (told-no (c .before .before .ok2 .ensures) (c .before .if2 .taken)))
-
-refused-queueing-requires-3 : tie.Need-refused-queueing-requires-3
-refused-queueing-requires-3 c κs = search needs
-
-fair : (c : tie.Else2) → loadOk (c .before .before .before .before .args .bundle) ≡ true
-fair c = told-yes (c .before .ok2 .ensures) (c .if2 .left)
-
-returns-3 : tie.Need-returns-3
-unfolding dequeueOf
-returns-3 c =
-    let two = c .before .before .before in
-    let one = two .before .before in
-    c .refused-queueing3 .ensures ∙ sym (unless-go _ _ _ (kept one) ∙ unless-go _ _ _ (fair two) ∙ pick-yes _ _ _ (c .before .if3 .taken))
-
-pull-requires : tie.Need-pull-requires
-pull-requires c κs =
-    let two = c .before .before in
-    let one = two .before .before in
-    kept one
-
-returns-4 : tie.Need-returns-4
-unfolding dequeueOf
-returns-4 c =
-    let two = c .before .before .before in
-    let one = two .before .before in
-    c .pull .ensures ∙ sym (unless-go _ _ _ (kept one) ∙ unless-go _ _ _ (fair two) ∙ pick-no _ _ _ (c .before .if3 .left))
+returns-2 c = c .dequeue-kept .ensures
 
 pub dequeue-spec : {M : Type 1} → statement M
-dequeue-spec =
-    tie.close
-    (tie.spec
-    ok-requires
-    refused-queueing-requires
-    returns
-    ok-requires-2
-    refused-queueing-requires-2
-    returns-2
-    refused-queueing-requires-3
-    returns-3
-    pull-requires
-    returns-4)
+dequeue-spec = tie.close (tie.spec ok-requires refused-queueing-requires returns dequeue-kept-requires returns-2)

@@ -1,9 +1,6 @@
--- `poly_seg::PolySeg::cut` meets its contract: the list's cut, with no rates, in the record.
-use mathlib.Core.Path.{ap}
+-- `poly_seg::PolySeg::cut` meets its contract: the list's cut, with no rates.
 use native.Mathlib.Omega.{arith}
 use Rattle.segmentation.specs.Granted.{Run}
-use Rattle.free_list.specs.declared.Cut.{Cut}
-use Rattle.poly_seg.specs.Book.{withFree}
 use Rattle.poly_seg.proofs.PolySeg.cut.Statement.{statement}
 use Rattle.poly_seg.proofs.PolySeg.cut.Tie as tie
 
@@ -12,9 +9,7 @@ unfolding Run
 cut-requires c κs = (omega arith, (record { from = 0; run = tt }, c .before .pre))
 
 returns : tie.Need-returns
-returns c =
-    let s = c .before .before .before .args .self in
-    ap (λ (x : Cut). record { number = x .number; manager = withFree s (x .list) }) (c .before .cut .ensures)
+returns c = c .cut .ensures
 
 pub cut-spec : {M : Type 1} → statement M
 cut-spec = tie.close (tie.spec cut-requires returns)

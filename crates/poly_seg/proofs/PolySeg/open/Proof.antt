@@ -6,7 +6,7 @@ use mathlib.Core.Path.{_≡_, sym, _∙_}
 use Rattle.units.specs.Limits.{windowOk}
 use Rattle.poly_seg.specs.Open.{delaysOk}
 use Rattle.poly_seg.proofs.Lookup.{delays-most}
-use Rattle.poly_seg.proofs.Calls.{open-window, open-delays, open-polynome, open-parts}
+use Rattle.poly_seg.proofs.Opening.{open-window, open-delays, open-polynome, open-parts}
 use Rattle.poly_seg.proofs.PolySeg.open.Statement.{statement}
 use Rattle.poly_seg.proofs.PolySeg.open.Tie as tie
 

@@ -1,0 +1,24 @@
+-- `frames::anew::priority` meets its contract: what the layout gives is opened, and what is opened keeps its rules.
+use mathlib.Core.Path.{_≡_, sym, ap, _∙_}
+use borrow.Author.Needs.{needs}
+use Rattle.pseg.specs.declared.Opened.{Opened}
+use Rattle.pseg.specs.Record.{recordOk}
+use Rattle.frames.specs.Opening.{priorityOpened}
+use Rattle.frames.proofs.Opened.{priority-opened}
+use Rattle.frames.proofs.anew.priority.Statement.{statement}
+use Rattle.frames.proofs.anew.priority.Tie as tie
+
+read-requires : tie.Need-read-requires
+read-requires c κs = search needs
+
+open-requires : tie.Need-open-requires
+open-requires c κs = search needs
+
+returns : tie.Need-returns
+unfolding priorityOpened
+returns c =
+    let is = c .«open» .ensures ∙ ap priorityOpened (c .before .before .before .before .read .ensures) in
+    (is, λ z. ap (λ (o : Opened). recordOk (o .manager)) is ∙ priority-opened _ (sym (ap (λ (o : Opened). o .number) is) ∙ z))
+
+pub priority-spec : {M : Type 1} → statement M
+priority-spec = tie.close (tie.spec read-requires open-requires returns)

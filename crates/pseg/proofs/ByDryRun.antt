@@ -1,0 +1,68 @@
+-- A booking on a record that keeps its rules, by its dry run's answer: refused as the answer tells, else the dates' send interval is set.
+use Prim.Native.Nat.{ℕ, _≤_}
+use mathlib.Core.Bool.{true, false}
+use mathlib.Core.Path.{_≡_, ap, _∙_}
+use native.Mathlib.Omega.{arith}
+use Rattle.units.specs.declared.Date.{Date}
+use Rattle.units.specs.declared.Interval.{Interval}
+use Rattle.units.specs.declared.TxData.{TxData}
+use Rattle.units.specs.declared.Bundle.{Bundle}
+use Rattle.units.specs.declared.Offer.{Offer}
+use Rattle.units.specs.Limits.{bundleOk}
+use Rattle.units.specs.Answer.{offers, refusalOf}
+use Rattle.units.proofs.Logic.{no-both}
+use Rattle.units.proofs.Booking.{refusal-none, booking-refused, booking-fits}
+use Rattle.units.proofs.Loads.{asked-load, load}
+use Rattle.contact.specs.Record.{delayList}
+use Rattle.contact.proofs.Offers.{refused-offers, offers-send, answer-not-two}
+use Rattle.bookings.specs.declared.Run.{Run}
+use Rattle.bookings.specs.declared.Run.the-variants.{Idle, Going, Sent}
+use Rattle.pseg.specs.declared.PrioritySeg.{PrioritySeg}
+use Rattle.pseg.specs.declared.Booked.{Booked}
+use Rattle.pseg.specs.Record.{recordOk}
+use Rattle.pseg.specs.DryRun.{dryRunOf, runOf, answerTo}
+use Rattle.pseg.specs.Book.{bookOf, bookedOf, bookedAt, refusedBooking}
+use Rattle.pseg.proofs.Calls.{dry-bundle, dry-fits, book-kept, book-at}
+
+-- where the bundle fits, the answer's number is 0, 7 or 8
+run-not-two : (r : PrioritySeg) (x : Run) → answerTo r x .number ≡ 2 → ⊥
+run-not-two r (Sent send) h = answer-not-two (delayList (r .contact)) send h
+run-not-two r (Going send) h = omega (arith, h)
+run-not-two r Idle h = omega (arith, h)
+
+-- dates that match the answer are those of the run that was found
+run-sends : (r : PrioritySeg) (x : Run) (d : TxData) → offers (answerTo r x) d ≡ true → x ≡ Sent (d .send)
+run-sends r (Sent send) d h = ap (λ (i : Interval). Sent i) (offers-send (delayList (r .contact)) send d h)
+run-sends r (Going send) d h = absurd (no-both h (refused-offers 7 d (λ z. omega arith)))
+run-sends r Idle d h = absurd (no-both h (refused-offers 7 d (λ z. omega arith)))
+
+module _ (r : PrioritySeg) (at : Date) (b : Bundle) (d : TxData) (ok : recordOk r ≡ true) where
+  abbrev done : Booked
+  done = bookedAt r (runOf r (at .0) b) (b .priority .0)
+
+  two : bundleOk at b ≡ false → dryRunOf r at b .number ≡ 2
+  two e = ap (λ (o : Offer). o .number) (dry-bundle r at b ok e)
+
+  not-two : bundleOk at b ≡ true → dryRunOf r at b .number ≡ 2 → ⊥
+  not-two e h = run-not-two r (runOf r (at .0) b) (rw (dry-fits r at b ok e) at h)
+
+  -- a refused one
+  pub dry-refused : (refusalOf (dryRunOf r at b) d ≡ 0 → ⊥) → bookOf r at b d ≡ refusedBooking (refusalOf (dryRunOf r at b) d) r
+  dry-refused some =
+      book-kept r at b ok d
+      ∙ booking-refused (dryRunOf r at b) d (bundleOk at b) (λ (n : ℕ). refusedBooking n r) done two not-two some
+
+  module _ (none : refusalOf (dryRunOf r at b) d ≡ 0) where
+    pub dry-bundled : bundleOk at b ≡ true
+    dry-bundled = booking-fits (dryRunOf r at b) d (bundleOk at b) (λ (n : ℕ). refusedBooking n r) done two none
+
+    dry-offers : offers (dryRunOf r at b) d ≡ true
+    dry-offers = refusal-none (dryRunOf r at b) d none
+
+    -- the run that was found is the dates' send interval
+    pub dry-found : runOf r (at .0) b ≡ Sent (d .send)
+    dry-found = run-sends r (runOf r (at .0) b) d (rw (dry-fits r at b ok dry-bundled) at dry-offers)
+
+    -- one that is not refused
+    pub dry-done : (bookOf r at b d ≡ bookedOf r (d .send) (b .priority .0)) × (b .priority .0 ≤ 127)
+    dry-done = (book-at r at b ok dry-bundled d (d .send) dry-found dry-offers, load b (asked-load at b dry-bundled) .priority)
