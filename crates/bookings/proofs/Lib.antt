@@ -9,4 +9,3 @@ pub mod SearchLaws
 pub mod RunLaws
 pub mod SetList
 pub mod Unique
-pub mod Cases

@@ -13,6 +13,7 @@ use Rattle.contact.specs.declared.Contact.{Contact}
 use Rattle.contact.proofs.Contact.open.Reads as open-reads
 use Rattle.contact.proofs.Contact.ok.Reads as ok-reads
 use Rattle.contact.proofs.Contact.refused.Reads as refused-reads
+use Rattle.contact.proofs.Contact.answer.Reads as answer-reads
 use Rattle.contact.proofs.opening.rates_cover.Reads as rates-cover-reads
 use Rattle.contact.proofs.opening.rates_are.Reads as rates-are-reads
 use Rattle.contact.proofs.opening.total_of.Reads as total-of-reads
@@ -34,6 +35,9 @@ open-unique window rates m delays k r q x y f g = f ∙ sym g
 
 pub ok-unique : (c : Contact) → Determined (ok-reads.Post tt (c, tt))
 ok-unique c r q x y f g = f ∙ sym g
+
+pub answer-unique : (c : Contact) (send : Interval) → Determined (answer-reads.Post tt (c, (send, tt)))
+answer-unique c send r q x y f g = f ∙ sym g
 
 pub refused-unique : (number : ℕ) → Determined (refused-reads.Post tt (number, tt))
 refused-unique number r q x y f g = f ∙ sym g

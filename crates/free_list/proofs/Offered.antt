@@ -57,18 +57,19 @@ pub record Picked (E : Rule) (t v : ℕ) (send : Interval) (g : VolumeSegment) :
   pub room : v ≤ g .volume .0
   pub ends : E (send .start .0) v (g .end .0) ≡ ends-at (send .end)
 
-no-send : {i : ℕ} {send : Interval} → None ≡ At i send → ⊥
+pub no-send : {i : ℕ} {send : Interval} → None ≡ At i send → ⊥
 no-send h = let z : _≡_ {A = ℕ} 0 1 = cc in omega arith
 
-module _ (E : Rule) (l : List VolumeSegment) (hi t v : ℕ) (send : Interval) where
-  up-go : (g : VolumeSegment) (f : List VolumeSegment) (i : ℕ) (o : Found) → up o ≡ At i send
-      → ((j : ℕ) → o ≡ At j send → AtPlace (Picked E t v send) f j) → AtPlace (Picked E t v send) (g ∷ f) i
-  unfolding AtPlace
-  up-go g f i (At j x) h k =
-      let p : suc j ≡ i = cc in
-      let q : At j x ≡ At j send = cc in rw (← p) (k j q)
-  up-go g f i None h k = absurd (no-send h)
+-- what is found one place further on is found there
+pub up-at : (P : VolumeSegment → Type 0) (send : Interval) (g : VolumeSegment) (f : List VolumeSegment) (i : ℕ) (o : Found) → up o ≡ At i send
+    → ((j : ℕ) → o ≡ At j send → AtPlace P f j) → AtPlace P (g ∷ f) i
+unfolding AtPlace
+up-at P send g f i (At j x) h k =
+    let p : suc j ≡ i = cc in
+    let q : At j x ≡ At j send = cc in rw (← p) (k j q)
+up-at P send g f i None h k = absurd (no-send h)
 
+module _ (E : Rule) (l : List VolumeSegment) (hi t v : ℕ) (send : Interval) where
   try-go : (g : VolumeSegment) (f : List VolumeSegment) (i s : ℕ) (o : Found) → g .start .0 ≤ s → t ≤ s
       → (c : Bool) (x : End) → leb v (g .volume .0) ≡ c → E s v (g .end .0) ≡ x
       → orElse (pick c x no-end) s o ≡ At i send
@@ -86,19 +87,19 @@ module _ (E : Rule) (l : List VolumeSegment) (hi t v : ℕ) (send : Interval) wh
   further-picked [] n i q le h = absurd (no-send h)
   further-picked (g ∷ f) n i q le h =
       try-go g f i (g .start .0) (up (furtherOf E f v)) (omega arith) (omega (arith, q .0)) (leb v (g .volume .0)) (E (g .start .0) v (g .end .0)) refl refl h
-      (λ k. up-go g f i (furtherOf E f v) k (λ j z. further-picked f (suc (g .end .0)) j (q .4) (omega (arith, q .0, q .1)) z))
+      (λ k. up-at (Picked E t v send) send g f i (furtherOf E f v) k (λ j z. further-picked f (suc (g .end .0)) j (q .4) (omega (arith, q .0, q .1)) z))
 
   skip-go : (g : VolumeSegment) (f : List VolumeSegment) (n i : ℕ) (c : Bool) → ltb (g .end .0) t ≡ c → Listed l n hi (g ∷ f)
       → ((j : ℕ) → offerOf E f t v ≡ At j send → AtPlace (Picked E t v send) f j)
       → pick c (up (offerOf E f t v)) (orElse (pick (leb v (g .volume .0)) (E (max (g .start .0) t) v (g .end .0)) no-end) (max (g .start .0) t) (up (furtherOf E f v))) ≡ At i send
       → AtPlace (Picked E t v send) (g ∷ f) i
   unfolding Listed
-  skip-go g f n i true p q ih h = up-go g f i (offerOf E f t v) h ih
+  skip-go g f n i true p q ih h = up-at (Picked E t v send) send g f i (offerOf E f t v) h ih
   skip-go g f n i false p q ih h =
       let late : t ≤ g .end .0 = ltb-false _ _ p in
       try-go g f i (max (g .start .0) t) (up (furtherOf E f v)) (omega arith) (omega arith)
       (leb v (g .volume .0)) (E (max (g .start .0) t) v (g .end .0)) refl refl h
-      (λ k. up-go g f i (furtherOf E f v) k (λ j z. further-picked f (suc (g .end .0)) j (q .4) (omega arith) z))
+      (λ k. up-at (Picked E t v send) send g f i (furtherOf E f v) k (λ j z. further-picked f (suc (g .end .0)) j (q .4) (omega arith) z))
 
   pub offer-picked : (f : List VolumeSegment) (n i : ℕ) → Listed l n hi f → offerOf E f t v ≡ At i send → AtPlace (Picked E t v send) f i
   unfolding offerOf

@@ -13,7 +13,8 @@ use Rattle.segmentation.specs.declared.End.{End}
 use Rattle.segmentation.specs.declared.End.the-variants.{At as ends-at, None as no-end}
 use Rattle.free_list.specs.declared.Found.{Found}
 use Rattle.free_list.specs.declared.Found.the-variants.{At, None}
-use Rattle.free_list.specs.Offer.{Rule, up, orElse, endFrom, furtherOf, offerOf, endIn}
+use Rattle.free_list.specs.Offer.{Rule, up, orElse, endFrom, furtherOf, offerOf}
+use Rattle.free_list.specs.Granted.{endIn}
 use Rattle.free_list.proofs.ListedLaws.{Listed}
 
 abbrev orElseAt : End → ℕ → ℕ → Found → Found

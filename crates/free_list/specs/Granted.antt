@@ -10,6 +10,8 @@ use Rattle.units.specs.Logic.{pick, unless, allOf}
 use Rattle.segmentation.specs.declared.DelaySegment.{DelaySegment}
 use Rattle.segmentation.specs.Delay.{answerWith}
 use Rattle.segmentation.specs.declared.VolumeSegment.{VolumeSegment}
+use Rattle.segmentation.specs.declared.End.{End}
+use Rattle.segmentation.specs.declared.End.the-variants.{None as no-end}
 use Rattle.segmentation.specs.Capacity.{rateOf}
 use Rattle.segmentation.specs.End.{closeOf}
 use Rattle.segmentation.specs.Granted.{Run}
@@ -20,6 +22,7 @@ use Rattle.free_list.specs.declared.Cut.{Cut}
 use Rattle.free_list.specs.declared.Chosen.{Chosen}
 use Rattle.free_list.specs.declared.Found.{Found}
 use Rattle.free_list.specs.declared.Found.the-variants.{At, None}
+use Rattle.free_list.specs.Offer.{Rule, endFrom}
 use Rattle.free_list.specs.declared.walk.Walk.{Walk}
 use Rattle.free_list.specs.declared.walk.Taken.{Taken}
 use Rattle.free_list.specs.declared.walk.Taken.the-variants.{Go, No}
@@ -55,6 +58,10 @@ chosenAt l None = noneChosen 7
 -- what a dry run finds, by its bundle's test
 abbrev pub chosenIn : Bool → List DelaySegment → Found → Chosen
 chosenIn fits l f = unless fits (noneChosen 2) (chosenAt l f)
+
+-- a segment's turn in the search (`end_in`)
+abbrev pub endIn : Rule → VolumeSegment → ℕ → ℕ → End
+endIn E g t v = pick (ltb (g .end .0) t) no-end (endFrom E g (max (g .start .0) t) v)
 
 -- the walk's numbers fit
 pub record WalkOk (w : Walk) : Type 0 where

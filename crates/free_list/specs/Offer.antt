@@ -39,7 +39,3 @@ offerOf E (g ∷ f) t v =
     pick (ltb (g .end .0) t)
     (up (offerOf E f t v))
     (orElse (endFrom E g (max (g .start .0) t) v) (max (g .start .0) t) (up (furtherOf E f v)))
-
--- a segment's turn in the search (`end_in`)
-abbrev pub endIn : Rule → VolumeSegment → ℕ → ℕ → End
-endIn E g t v = pick (ltb (g .end .0) t) no-end (endFrom E g (max (g .start .0) t) v)

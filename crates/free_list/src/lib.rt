@@ -16,9 +16,9 @@ ghost use Rattle.segmentation.specs.Granted.{Run, Runs, Covers};
 ghost use Rattle.segmentation.specs.End.{endOf};
 ghost use Rattle.contact.specs.Segments.{noVolume};
 ghost use Rattle.free_list.specs.Listed.{listOk};
-ghost use Rattle.free_list.specs.Offer.{offerOf, endIn};
+ghost use Rattle.free_list.specs.Offer.{offerOf};
 ghost use Rattle.free_list.specs.Cut.{restOf, stretchOf, cutList, listIn, wholeWindow};
-ghost use Rattle.free_list.specs.Granted.{Inside, insertOf, leftIn, noneChosen};
+ghost use Rattle.free_list.specs.Granted.{Inside, insertOf, leftIn, noneChosen, endIn};
 
 pub mod walk;
 

@@ -7,6 +7,5 @@ pub mod Answers
 pub mod Kept
 pub mod Inverse
 pub mod Unique
-pub mod Cases
 pub mod Reach
 pub mod Stores

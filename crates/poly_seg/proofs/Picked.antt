@@ -16,7 +16,7 @@ use Rattle.segmentation.specs.declared.End.the-variants.{At as ends-at, None as
 use Rattle.free_list.specs.declared.Found.{Found}
 use Rattle.free_list.specs.declared.Found.the-variants.{At, None}
 use Rattle.free_list.specs.Offer.{up, orElse}
-use Rattle.free_list.proofs.Offered.{AtPlace}
+use Rattle.free_list.proofs.Offered.{AtPlace, no-send, up-at}
 use Rattle.poly.specs.declared.Polynome.{Polynome}
 use Rattle.poly.specs.Search.{findEnd}
 use Rattle.poly_seg.specs.DryRun.{endIn, offerOf}
@@ -69,18 +69,7 @@ pub record Picked (p : Polynome) (t v : ℕ) (send : Interval) (g : VolumeSegmen
   pub start : send .start .0 ≡ max (g .start .0) t
   pub ends : findEnd p (g .start .0) (g .end .0) (send .start .0) v ≡ ends-at (send .end)
 
-no-send : {i : ℕ} {send : Interval} → None ≡ At i send → ⊥
-no-send h = let z : _≡_ {A = ℕ} 0 1 = cc in omega arith
-
 module _ (p : Polynome) (t v : ℕ) (send : Interval) where
-  up-go : (g : VolumeSegment) (f : List VolumeSegment) (i : ℕ) (o : Found) → up o ≡ At i send
-      → ((j : ℕ) → o ≡ At j send → AtPlace (Picked p t v send) f j) → AtPlace (Picked p t v send) (g ∷ f) i
-  unfolding AtPlace
-  up-go g f i (At j x) h k =
-      let e : suc j ≡ i = cc in
-      let q : At j x ≡ At j send = cc in rw (← e) (k j q)
-  up-go g f i None h k = absurd (no-send h)
-
   try-go : (g : VolumeSegment) (f : List VolumeSegment) (i : ℕ) (o : Found) (c : Bool) (x : End)
       → findEnd p (g .start .0) (g .end .0) (max (g .start .0) t) v ≡ x
       → orElse (pick c no-end x) (max (g .start .0) t) o ≡ At i send
@@ -98,4 +87,4 @@ module _ (p : Polynome) (t v : ℕ) (send : Interval) where
   offer-picked [] i h = absurd (no-send h)
   offer-picked (g ∷ f) i h =
       try-go g f i (up (offerOf p f t v)) (ltb (g .end .0) t) (findEnd p (g .start .0) (g .end .0) (max (g .start .0) t) v) refl h
-      (λ k. up-go g f i (offerOf p f t v) k (λ j z. offer-picked f j z))
+      (λ k. up-at (Picked p t v send) send g f i (offerOf p f t v) k (λ j z. offer-picked f j z))

@@ -3,4 +3,3 @@ pub mod Calls
 pub mod ByDryRun
 pub mod Kept
 pub mod Unique
-pub mod Cases

@@ -2,4 +2,3 @@ pub mod Facts
 pub mod Calls
 pub mod Kept
 pub mod Unique
-pub mod Cases

@@ -8,4 +8,3 @@ pub mod RateLoop
 pub mod DelayLoop
 pub mod DelayLaws
 pub mod Unique
-pub mod Cases

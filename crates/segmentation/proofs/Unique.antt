@@ -4,84 +4,45 @@ use mathlib.Core.Path.{_≡_, sym, ap, _∙_}
 use mathlib.Core.List.{List}
 use native.Mathlib.Omega.{arith}
 use lib.ListN.{length, take, length-take, length-drop}
-use borrow.Fn.Kinds.{endedOf}
-use denote.Triple.Clauses.{AtExit}
 use Rattle.units.specs.declared.Date.{Date}
 use Rattle.units.specs.declared.Volume.{Volume}
 use Rattle.units.specs.declared.Interval.{Interval}
-use Rattle.units.specs.declared.Offer.{Offer}
+use Rattle.units.proofs.Determined.{Determined}
+use Rattle.units.proofs.Unique.{date-is, volume-is}
 use Rattle.segmentation.specs.declared.VolumeSegment.{VolumeSegment}
 use Rattle.segmentation.specs.declared.DelaySegment.{DelaySegment}
-use Rattle.segmentation.specs.declared.End.{End}
 use Rattle.segmentation.specs.declared.Delays.{Delays}
 use Rattle.segmentation.specs.Granted.{Placed}
-use Rattle.segmentation.proofs.VolumeSegment.carried.Kinds as carried-kinds
 use Rattle.segmentation.proofs.VolumeSegment.carried.Reads as carried-reads
-use Rattle.segmentation.proofs.VolumeSegment.sent.Kinds as sent-kinds
 use Rattle.segmentation.proofs.VolumeSegment.sent.Reads as sent-reads
-use Rattle.segmentation.proofs.VolumeSegment.part.Kinds as part-kinds
 use Rattle.segmentation.proofs.VolumeSegment.part.Reads as part-reads
-use Rattle.segmentation.proofs.by_deadline.Kinds as by-deadline-kinds
 use Rattle.segmentation.proofs.by_deadline.Reads as by-deadline-reads
-use Rattle.segmentation.proofs.find_end.Kinds as find-end-kinds
 use Rattle.segmentation.proofs.find_end.Reads as find-end-reads
-use Rattle.segmentation.proofs.volume_between.Kinds as volume-between-kinds
 use Rattle.segmentation.proofs.volume_between.Reads as volume-between-reads
-use Rattle.segmentation.proofs.delay_place.Kinds as delay-place-kinds
 use Rattle.segmentation.proofs.delay_place.Reads as delay-place-reads
-use Rattle.segmentation.proofs.find_delays.Kinds as find-delays-kinds
 use Rattle.segmentation.proofs.find_delays.Reads as find-delays-reads
-use Rattle.segmentation.proofs.answer.Kinds as answer-kinds
 use Rattle.segmentation.proofs.answer.Reads as answer-reads
+use Rattle.segmentation.proofs.answer_at.Reads as answer-at-reads
 
--- a date or a volume is its number
-volume-is : (r q : Volume) (n : ℕ) → r .0 ≡ n → q .0 ≡ n → r ≡ q
-volume-is r q n h k = ap (λ (x : ℕ). record { 0 = x }) (h ∙ sym k)
+module _ (self : VolumeSegment) (from : Date) where
+  pub carried-unique : Determined (carried-reads.Post tt (self, (from, tt)))
+  carried-unique r q x y f g = volume-is r q _ f g
 
-date-is : (r q : Date) (n : ℕ) → r .0 ≡ n → q .0 ≡ n → r ≡ q
-date-is r q n h k = ap (λ (x : ℕ). record { 0 = x }) (h ∙ sym k)
+  pub sent-unique : (rest : Volume) → Determined (sent-reads.Post tt (self, (from, (rest, tt))))
+  sent-unique rest r q x y f g = date-is r q _ f g
 
-pub carried-unique : (self : VolumeSegment) (from : Date)
-    (s s′ : AtExit (endedOf 0 carried-kinds.ps carried-kinds.r) tt) (r q : Volume)
-    → carried-reads.Post tt (self, (from, tt)) r s
-    → carried-reads.Post tt (self, (from, tt)) q s′
-    → r ≡ q
-carried-unique self from s s′ r q h k = volume-is r q _ h k
+  pub part-unique : (end : Date) → Determined (part-reads.Post tt (self, (from, (end, tt))))
+  part-unique end r q x y f g = volume-is r q _ (f .0) (g .0)
 
-pub sent-unique : (self : VolumeSegment) (from : Date) (rest : Volume)
-    (s s′ : AtExit (endedOf 0 sent-kinds.ps sent-kinds.r) tt) (r q : Date)
-    → sent-reads.Post tt (self, (from, (rest, tt))) r s
-    → sent-reads.Post tt (self, (from, (rest, tt))) q s′
-    → r ≡ q
-sent-unique self from rest s s′ r q h k = date-is r q _ h k
+pub by-deadline-unique : (end deadline : Date) → Determined (by-deadline-reads.Post tt (end, (deadline, tt)))
+by-deadline-unique end deadline r q x y f g = f ∙ sym g
 
-pub part-unique : (self : VolumeSegment) (start end : Date)
-    (s s′ : AtExit (endedOf 0 part-kinds.ps part-kinds.r) tt) (r q : Volume)
-    → part-reads.Post tt (self, (start, (end, tt))) r s
-    → part-reads.Post tt (self, (start, (end, tt))) q s′
-    → r ≡ q
-part-unique self start end s s′ r q h k = volume-is r q _ (h .0) (k .0)
+module _ (rates : List VolumeSegment) (count : ℕ) (start : Date) where
+  pub find-end-unique : (size : Volume) (deadline : Date) → Determined (find-end-reads.Post tt (rates, (count, (start, (size, (deadline, tt))))))
+  find-end-unique size deadline r q x y f g = f ∙ sym g
 
-pub by-deadline-unique : (end deadline : Date)
-    (s s′ : AtExit (endedOf 0 by-deadline-kinds.ps by-deadline-kinds.r) tt) (r q : End)
-    → by-deadline-reads.Post tt (end, (deadline, tt)) r s
-    → by-deadline-reads.Post tt (end, (deadline, tt)) q s′
-    → r ≡ q
-by-deadline-unique end deadline s s′ r q h k = h ∙ sym k
-
-pub find-end-unique : (rates : List VolumeSegment) (count : ℕ) (start : Date) (size : Volume) (deadline : Date)
-    (s s′ : AtExit (endedOf 0 find-end-kinds.ps find-end-kinds.r) tt) (r q : End)
-    → find-end-reads.Post tt (rates, (count, (start, (size, (deadline, tt))))) r s
-    → find-end-reads.Post tt (rates, (count, (start, (size, (deadline, tt))))) q s′
-    → r ≡ q
-find-end-unique rates count start size deadline s s′ r q h k = h ∙ sym k
-
-pub volume-between-unique : (rates : List VolumeSegment) (count : ℕ) (start end : Date)
-    (s s′ : AtExit (endedOf 0 volume-between-kinds.ps volume-between-kinds.r) tt) (r q : Volume)
-    → volume-between-reads.Post tt (rates, (count, (start, (end, tt)))) r s
-    → volume-between-reads.Post tt (rates, (count, (start, (end, tt)))) q s′
-    → r ≡ q
-volume-between-unique rates count start end s s′ r q h k = volume-is r q _ h k
+  pub volume-between-unique : (end : Date) → Determined (volume-between-reads.Post tt (rates, (count, (start, (end, tt)))))
+  volume-between-unique end r q x y f g = volume-is r q _ f g
 
 -- a place is told by what is left of the list there
 placed-unique : (l : List DelaySegment) (n from t r q : ℕ) → length l ≡ n → Placed l n from t r → Placed l n from t q → r ≡ q
@@ -89,24 +50,16 @@ placed-unique l n from t r q len h k =
     let same = simp length-drop at (ap length (h .is ∙ sym (k .is))) in
     omega (arith, same, h .low, k .low)
 
-pub delay-place-unique : (delays : List DelaySegment) (count from : ℕ) (date : Date) → count ≤ length delays
-    → (s s′ : AtExit (endedOf 0 delay-place-kinds.ps delay-place-kinds.r) tt) (r q : ℕ)
-    → delay-place-reads.Post tt (delays, (count, (from, (date, tt)))) r s
-    → delay-place-reads.Post tt (delays, (count, (from, (date, tt)))) q s′
-    → r ≡ q
-delay-place-unique delays count from date le s s′ r q h k =
-    placed-unique (take count delays) count from (date .0) r q (simp length-take (omega arith)) h k
+module _ (delays : List DelaySegment) (count : ℕ) where
+  pub delay-place-unique : (from : ℕ) (date : Date) → count ≤ length delays → Determined (delay-place-reads.Post tt (delays, (count, (from, (date, tt)))))
+  delay-place-unique from date le r q x y f g =
+      placed-unique (take count delays) count from (date .0) r q (simp length-take (omega arith)) f g
 
-pub find-delays-unique : (delays : List DelaySegment) (count : ℕ) (send : Interval)
-    (s s′ : AtExit (endedOf 0 find-delays-kinds.ps find-delays-kinds.r) tt) (r q : Delays)
-    → find-delays-reads.Post tt (delays, (count, (send, tt))) r s
-    → find-delays-reads.Post tt (delays, (count, (send, tt))) q s′
-    → r ≡ q
-find-delays-unique delays count send s s′ r q h k = h ∙ sym k
+  pub find-delays-unique : (send : Interval) → Determined (find-delays-reads.Post tt (delays, (count, (send, tt))))
+  find-delays-unique send r q x y f g = f ∙ sym g
 
-pub answer-unique : (send : Interval) (delays : Delays)
-    (s s′ : AtExit (endedOf 0 answer-kinds.ps answer-kinds.r) tt) (r q : Offer)
-    → answer-reads.Post tt (send, (delays, tt)) r s
-    → answer-reads.Post tt (send, (delays, tt)) q s′
-    → r ≡ q
-answer-unique send delays s s′ r q h k = h ∙ sym k
+  pub answer-at-unique : (send : Interval) → Determined (answer-at-reads.Post tt (delays, (count, (send, tt))))
+  answer-at-unique send r q x y f g = f ∙ sym g
+
+pub answer-unique : (send : Interval) (delays : Delays) → Determined (answer-reads.Post tt (send, (delays, tt)))
+answer-unique send delays r q x y f g = f ∙ sym g

@@ -13,3 +13,4 @@ pub mod Choice
 pub mod Each
 pub mod Loads
 pub mod Booking
+pub mod Unique
