@@ -1,35 +1,56 @@
 -- Each public call's promise determines its answer: two answers that meet it are equal. `Post` is the reading of the contract in src/.
-use mathlib.Core.Bool.{Bool}
+use Prim.Native.Nat.{ℕ}
 use mathlib.Core.Path.{_≡_, sym, _∙_}
-use borrow.Fn.Kinds.{endedOf}
-use denote.Triple.Clauses.{AtExit}
 use lib.IntN.{ℤ}
 use Rattle.units.specs.declared.Date.{Date}
 use Rattle.units.specs.declared.Interval.{Interval}
 use Rattle.units.specs.declared.Volume.{Volume}
-use Rattle.segmentation.specs.declared.End.{End}
+use Rattle.units.proofs.Determined.{Determined}
 use Rattle.poly.specs.declared.Polynome.{Polynome}
-use Rattle.poly.proofs.Polynome.ok.Kinds as ok-kinds
 use Rattle.poly.proofs.Polynome.ok.Reads as ok-reads
-use Rattle.poly.proofs.Polynome.capacity.Kinds as capacity-kinds
 use Rattle.poly.proofs.Polynome.capacity.Reads as capacity-reads
-use Rattle.poly.proofs.Polynome.find_end.Kinds as find-end-kinds
 use Rattle.poly.proofs.Polynome.find_end.Reads as find-end-reads
+use Rattle.poly.proofs.signed.mul.Reads as mul-reads
+use Rattle.poly.proofs.signed.add.Reads as add-reads
+use Rattle.poly.proofs.signed.sub.Reads as sub-reads
+use Rattle.poly.proofs.signed.div.Reads as div-reads
+use Rattle.poly.proofs.signed.signed.Reads as signed-reads
+use Rattle.poly.proofs.signed.unsigned.Reads as unsigned-reads
+use Rattle.poly.proofs.signed.less.Reads as less-reads
+use Rattle.poly.proofs.signed.magnitude.Reads as magnitude-reads
 
-pub ok-unique : (p : Polynome) (w : Interval) (s s′ : AtExit (endedOf 0 ok-kinds.ps ok-kinds.r) tt) (r q : Bool)
-    → ok-reads.Post tt (p, (w, tt)) r s
-    → ok-reads.Post tt (p, (w, tt)) q s′
-    → r ≡ q
-ok-unique p w s s′ r q h k = h ∙ sym k
+module _ (p : Polynome) (w : Interval) where
+  pub ok-unique : Determined (ok-reads.Post tt (p, (w, tt)))
+  ok-unique r q x y f g = f ∙ sym g
 
-pub capacity-unique : (p : Polynome) (w : Interval) (x : Date) (s s′ : AtExit (endedOf 0 capacity-kinds.ps capacity-kinds.r) tt) (r q : ℤ)
-    → capacity-reads.Post tt (p, (w, (x, tt))) r s
-    → capacity-reads.Post tt (p, (w, (x, tt))) q s′
-    → r ≡ q
-capacity-unique p w x s s′ r q h k = h .0 ∙ sym (k .0)
+  pub capacity-unique : (at : Date) → Determined (capacity-reads.Post tt (p, (w, (at, tt))))
+  capacity-unique at r q x y f g = f .0 ∙ sym (g .0)
 
-pub find-end-unique : (p : Polynome) (w segment : Interval) (x : Date) (size : Volume) (s s′ : AtExit (endedOf 0 find-end-kinds.ps find-end-kinds.r) tt) (r q : End)
-    → find-end-reads.Post tt (p, (w, (segment, (x, (size, tt))))) r s
-    → find-end-reads.Post tt (p, (w, (segment, (x, (size, tt))))) q s′
-    → r ≡ q
-find-end-unique p w segment x size s s′ r q h k = h ∙ sym k
+  pub find-end-unique : (segment : Interval) (at : Date) (size : Volume) → Determined (find-end-reads.Post tt (p, (w, (segment, (at, (size, tt))))))
+  find-end-unique segment at size r q x y f g = f ∙ sym g
+
+module _ (a b : ℤ) where
+  pub mul-unique : Determined (mul-reads.Post tt (a, (b, tt)))
+  mul-unique r q x y f g = f ∙ sym g
+
+  pub add-unique : Determined (add-reads.Post tt (a, (b, tt)))
+  add-unique r q x y f g = f ∙ sym g
+
+  pub sub-unique : Determined (sub-reads.Post tt (a, (b, tt)))
+  sub-unique r q x y f g = f ∙ sym g
+
+  pub div-unique : Determined (div-reads.Post tt (a, (b, tt)))
+  div-unique r q x y f g = f ∙ sym g
+
+  pub less-unique : Determined (less-reads.Post tt (a, (b, tt)))
+  less-unique r q x y f g = f ∙ sym g
+
+pub signed-unique : (n : ℕ) → Determined (signed-reads.Post tt (n, tt))
+signed-unique n r q x y f g = f ∙ sym g
+
+module _ (z : ℤ) where
+  pub unsigned-unique : Determined (unsigned-reads.Post tt (z, tt))
+  unsigned-unique r q x y f g = f ∙ sym g
+
+  pub magnitude-unique : Determined (magnitude-reads.Post tt (z, tt))
+  magnitude-unique r q x y f g = f ∙ sym g

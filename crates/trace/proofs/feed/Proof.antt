@@ -19,6 +19,10 @@ abbrev μ-loop : tie.MeasureT-loop
 μ-loop reply₀ out₀ chunk start kind₀ free₀ priority₀ polynomial₀ queue₀ waiting₀ n₀ from₀ end₀ reply out kind free priority polynomial queue waiting n from end =
     length chunk - end
 
+-- a callee with no `requires`
+nothing-asked : {A B : Type 0} → A → B → Unit {0}
+nothing-asked c κs = tt
+
 -- what is held where a turn begins
 abbrev held-at : tie.At-loop Inv-loop μ-loop → Held
 held-at l = record { kind = l .loop .kind; free = l .loop .free; priority = l .loop .priority; polynomial = l .loop .polynomial; queue = l .loop .queue }
@@ -64,17 +68,8 @@ add-from c = search needs
 line-end-requires-2 : tie.Need-line-end-requires-2 Inv-loop μ-loop
 line-end-requires-2 c κs = search needs
 
-say-requires : tie.Need-say-requires Inv-loop μ-loop
-say-requires c κs = search needs
-
-of-requires : tie.Need-of-requires Inv-loop μ-loop
-of-requires c κs = search needs
-
 enum-told : tie.Need-enum-told Inv-loop μ-loop
 enum-told c = search needs
-
-put-number-requires : tie.Need-put-number-requires Inv-loop μ-loop
-put-number-requires c κs = search needs
 
 loop-less : tie.Need-loop-less Inv-loop μ-loop
 loop-less c = less (c .before .before .before .before)
@@ -87,17 +82,11 @@ loop-again c =
 enum-told-2 : tie.Need-enum-told-2 Inv-loop μ-loop
 enum-told-2 c = search needs
 
-date-at-requires : tie.Need-date-at-requires Inv-loop μ-loop
-date-at-requires c κs = search needs
-
 bundle-at-requires : tie.Need-bundle-at-requires Inv-loop μ-loop
 bundle-at-requires c κs = search needs
 
 enum-told-3 : tie.Need-enum-told-3 Inv-loop μ-loop
 enum-told-3 c = search needs
-
-put-number-requires-2 : tie.Need-put-number-requires-2 Inv-loop μ-loop
-put-number-requires-2 c κs = search needs
 
 loop-less-2 : tie.Need-loop-less-2 Inv-loop μ-loop
 loop-less-2 c = less (c .before .before .before .before .before .before .before .before)
@@ -113,9 +102,6 @@ enum-told-4 c = search needs
 chosen-requires : tie.Need-chosen-requires Inv-loop μ-loop
 chosen-requires c κs = free-ok _ (kept (c .before .before .before .before .before .before)) (c .enum-told4 .given .1)
 
-put-offer-requires : tie.Need-put-offer-requires Inv-loop μ-loop
-put-offer-requires c κs = search needs
-
 loop-less-3 : tie.Need-loop-less-3 Inv-loop μ-loop
 loop-less-3 c = less (c .before .before .before .before .before .before .before .before .before .before)
 
@@ -129,9 +115,6 @@ enum-told-5 c = search needs
 
 dry-run-kept-requires : tie.Need-dry-run-kept-requires Inv-loop μ-loop
 dry-run-kept-requires c κs = priority-ok _ (kept (c .before .before .before .before .before .before)) (c .enum-told5 .given .1)
-
-put-offer-requires-2 : tie.Need-put-offer-requires-2 Inv-loop μ-loop
-put-offer-requires-2 c κs = search needs
 
 loop-less-4 : tie.Need-loop-less-4 Inv-loop μ-loop
 loop-less-4 c = less (c .before .before .before .before .before .before .before .before .before)
@@ -147,9 +130,6 @@ enum-told-6 c = search needs
 chosen-requires-2 : tie.Need-chosen-requires-2 Inv-loop μ-loop
 chosen-requires-2 c κs = polynomial-ok _ (kept (c .before .before .before .before .before .before)) (c .enum-told6 .given .1)
 
-put-offer-requires-3 : tie.Need-put-offer-requires-3 Inv-loop μ-loop
-put-offer-requires-3 c κs = search needs
-
 loop-less-5 : tie.Need-loop-less-5 Inv-loop μ-loop
 loop-less-5 c = less (c .before .before .before .before .before .before .before .before .before .before)
 
@@ -164,9 +144,6 @@ enum-told-7 c = search needs
 dry-run-kept-requires-2 : tie.Need-dry-run-kept-requires-2 Inv-loop μ-loop
 dry-run-kept-requires-2 c κs = queue-ok _ (kept (c .before .before .before .before .before .before)) (c .enum-told7 .given .1)
 
-put-offer-requires-4 : tie.Need-put-offer-requires-4 Inv-loop μ-loop
-put-offer-requires-4 c κs = search needs
-
 loop-less-6 : tie.Need-loop-less-6 Inv-loop μ-loop
 loop-less-6 c = less (c .before .before .before .before .before .before .before .before .before)
 
@@ -178,9 +155,6 @@ loop-again-6 c =
 enum-told-8 : tie.Need-enum-told-8 Inv-loop μ-loop
 enum-told-8 c = search needs
 
-date-at-requires-2 : tie.Need-date-at-requires-2 Inv-loop μ-loop
-date-at-requires-2 c κs = search needs
-
 bundle-at-requires-2 : tie.Need-bundle-at-requires-2 Inv-loop μ-loop
 bundle-at-requires-2 c κs = search needs
 
@@ -189,9 +163,6 @@ dates-at-requires c κs = search needs
 
 enum-told-9 : tie.Need-enum-told-9 Inv-loop μ-loop
 enum-told-9 c = search needs
-
-put-number-requires-3 : tie.Need-put-number-requires-3 Inv-loop μ-loop
-put-number-requires-3 c κs = search needs
 
 loop-less-7 : tie.Need-loop-less-7 Inv-loop μ-loop
 loop-less-7 c = less (c .before .before .before .before .before .before .before .before .before .before .before)
@@ -207,12 +178,6 @@ enum-told-10 c = search needs
 chosen-requires-3 : tie.Need-chosen-requires-3 Inv-loop μ-loop
 chosen-requires-3 c κs = free-ok _ (kept (c .before .before .before .before .before .before .before .before .before)) (c .enum-told10 .given .1)
 
-refusal-requires : tie.Need-refusal-requires Inv-loop μ-loop
-refusal-requires c κs = search needs
-
-put-number-requires-4 : tie.Need-put-number-requires-4 Inv-loop μ-loop
-put-number-requires-4 c κs = search needs
-
 loop-less-8 : tie.Need-loop-less-8 Inv-loop μ-loop
 loop-less-8 c = less (c .before .before .before .before .before .before .before .before .before .before .before .before .before .before .before)
 
@@ -227,9 +192,6 @@ cut-requires c κs =
     let k = r .before .before in
     let s = k .before .before .before .before .before .before .before .before .before .before in
     (free-ok _ (kept s) (k .before .enum-told10 .given .1), free-inside _ (kept s) _ _ _ (k .before .enum-told10 .given .1) (k .chosen3 .ensures) (sym (r .refusal .ensures) ∙ c .if1 .left))
-
-put-number-requires-5 : tie.Need-put-number-requires-5 Inv-loop μ-loop
-put-number-requires-5 c κs = search needs
 
 loop-less-9 : tie.Need-loop-less-9 Inv-loop μ-loop
 loop-less-9 c = less (c .before .before .before .before .before .before .before .before .before .before .before .before .before .before .before .before .before)
@@ -249,12 +211,6 @@ enum-told-11 c = search needs
 dry-run-kept-requires-3 : tie.Need-dry-run-kept-requires-3 Inv-loop μ-loop
 dry-run-kept-requires-3 c κs = priority-ok _ (kept (c .before .before .before .before .before .before .before .before .before)) (c .enum-told11 .given .1)
 
-refusal-requires-2 : tie.Need-refusal-requires-2 Inv-loop μ-loop
-refusal-requires-2 c κs = search needs
-
-put-number-requires-6 : tie.Need-put-number-requires-6 Inv-loop μ-loop
-put-number-requires-6 c κs = search needs
-
 loop-less-10 : tie.Need-loop-less-10 Inv-loop μ-loop
 loop-less-10 c = less (c .before .before .before .before .before .before .before .before .before .before .before .before .before .before)
 
@@ -270,9 +226,6 @@ set-requires c κs =
     let k = r .before in
     let s = k .before .before .before .before .before .before .before .before .before .before in
     (priority-ok _ (kept s) (k .before .enum-told11 .given .1), priority-most _ (kept s) _ _ _ (k .before .enum-told11 .given .1) (k .dry-run-kept3 .ensures) (sym (r .refusal2 .ensures) ∙ e .if2 .left))
-
-put-number-requires-7 : tie.Need-put-number-requires-7 Inv-loop μ-loop
-put-number-requires-7 c κs = search needs
 
 loop-less-11 : tie.Need-loop-less-11 Inv-loop μ-loop
 loop-less-11 c = less (c .before .before .before .before .before .before .before .before .before .before .before .before .before .before .before .before .before)
@@ -292,12 +245,6 @@ enum-told-12 c = search needs
 chosen-requires-4 : tie.Need-chosen-requires-4 Inv-loop μ-loop
 chosen-requires-4 c κs = polynomial-ok _ (kept (c .before .before .before .before .before .before .before .before .before)) (c .enum-told12 .given .1)
 
-refusal-requires-3 : tie.Need-refusal-requires-3 Inv-loop μ-loop
-refusal-requires-3 c κs = search needs
-
-put-number-requires-8 : tie.Need-put-number-requires-8 Inv-loop μ-loop
-put-number-requires-8 c κs = search needs
-
 loop-less-12 : tie.Need-loop-less-12 Inv-loop μ-loop
 loop-less-12 c = less (c .before .before .before .before .before .before .before .before .before .before .before .before .before .before .before)
 
@@ -312,9 +259,6 @@ cut-requires-2 c κs =
     let k = r .before .before in
     let s = k .before .before .before .before .before .before .before .before .before .before in
     polynomial-inside _ (kept s) _ _ _ (k .before .enum-told12 .given .1) (k .chosen4 .ensures) (sym (r .refusal3 .ensures) ∙ c .if3 .left)
-
-put-number-requires-9 : tie.Need-put-number-requires-9 Inv-loop μ-loop
-put-number-requires-9 c κs = search needs
 
 loop-less-13 : tie.Need-loop-less-13 Inv-loop μ-loop
 loop-less-13 c = less (c .before .before .before .before .before .before .before .before .before .before .before .before .before .before .before .before .before)
@@ -334,9 +278,6 @@ enum-told-13 c = search needs
 book-kept-requires : tie.Need-book-kept-requires Inv-loop μ-loop
 book-kept-requires c κs = queue-ok _ (kept (c .before .before .before .before .before .before .before .before .before)) (c .enum-told13 .given .1)
 
-put-number-requires-10 : tie.Need-put-number-requires-10 Inv-loop μ-loop
-put-number-requires-10 c κs = search needs
-
 loop-less-14 : tie.Need-loop-less-14 Inv-loop μ-loop
 loop-less-14 c = less (c .before .before .before .before .before .before .before .before .before .before .before .before .before)
 
@@ -352,9 +293,6 @@ enum-told-14 c = search needs
 enum-told-15 : tie.Need-enum-told-15 Inv-loop μ-loop
 enum-told-15 c = search needs
 
-put-number-requires-11 : tie.Need-put-number-requires-11 Inv-loop μ-loop
-put-number-requires-11 c κs = search needs
-
 loop-less-15 : tie.Need-loop-less-15 Inv-loop μ-loop
 loop-less-15 c = less (c .before .before .before .before .before .before)
 
@@ -369,9 +307,6 @@ enum-told-16 c = search needs
 call-requires : tie.Need-call-requires Inv-loop μ-loop
 call-requires c κs = queue-ok _ (kept (c .before .before .before .before)) (c .enum-told16 .given .1)
 
-put-number-requires-12 : tie.Need-put-number-requires-12 Inv-loop μ-loop
-put-number-requires-12 c κs = search needs
-
 loop-less-16 : tie.Need-loop-less-16 Inv-loop μ-loop
 loop-less-16 c = less (c .before .before .before .before .before .before .before .before)
 
@@ -380,9 +315,6 @@ loop-again-16 c =
     let q = c .before .before .before in
     let s = q .before .before .before .before .before in
     (turned s, queueing-kept _ (kept s) _ (q .before .enum-told16 .given .1) (q .call .ensures))
-
-put-number-requires-13 : tie.Need-put-number-requires-13 Inv-loop μ-loop
-put-number-requires-13 c κs = search needs
 
 loop-less-17 : tie.Need-loop-less-17 Inv-loop μ-loop
 loop-less-17 c = less (c .before .before .before .before .before)
@@ -395,9 +327,6 @@ loop-again-17 c =
 enum-told-17 : tie.Need-enum-told-17 Inv-loop μ-loop
 enum-told-17 c = search needs
 
-list-requires : tie.Need-list-requires Inv-loop μ-loop
-list-requires c κs = search needs
-
 loop-less-18 : tie.Need-loop-less-18 Inv-loop μ-loop
 loop-less-18 c = less (c .before .before .before .before)
 
@@ -408,12 +337,6 @@ loop-again-18 c =
 
 enum-told-18 : tie.Need-enum-told-18 Inv-loop μ-loop
 enum-told-18 c = search needs
-
-free-requires : tie.Need-free-requires Inv-loop μ-loop
-free-requires c κs = search needs
-
-put-number-requires-14 : tie.Need-put-number-requires-14 Inv-loop μ-loop
-put-number-requires-14 c κs = search needs
 
 loop-less-19 : tie.Need-loop-less-19 Inv-loop μ-loop
 loop-less-19 c = less (c .before .before .before .before .before .before)
@@ -435,12 +358,6 @@ loop-again-20 c =
 enum-told-19 : tie.Need-enum-told-19 Inv-loop μ-loop
 enum-told-19 c = search needs
 
-priority-requires : tie.Need-priority-requires Inv-loop μ-loop
-priority-requires c κs = search needs
-
-put-number-requires-15 : tie.Need-put-number-requires-15 Inv-loop μ-loop
-put-number-requires-15 c κs = search needs
-
 loop-less-21 : tie.Need-loop-less-21 Inv-loop μ-loop
 loop-less-21 c = less (c .before .before .before .before .before .before)
 
@@ -460,12 +377,6 @@ loop-again-22 c =
 
 enum-told-20 : tie.Need-enum-told-20 Inv-loop μ-loop
 enum-told-20 c = search needs
-
-polynomial-requires : tie.Need-polynomial-requires Inv-loop μ-loop
-polynomial-requires c κs = search needs
-
-put-number-requires-16 : tie.Need-put-number-requires-16 Inv-loop μ-loop
-put-number-requires-16 c κs = search needs
 
 loop-less-23 : tie.Need-loop-less-23 Inv-loop μ-loop
 loop-less-23 c = less (c .before .before .before .before .before .before)
@@ -487,12 +398,6 @@ loop-again-24 c =
 enum-told-21 : tie.Need-enum-told-21 Inv-loop μ-loop
 enum-told-21 c = search needs
 
-queue-requires : tie.Need-queue-requires Inv-loop μ-loop
-queue-requires c κs = search needs
-
-put-number-requires-17 : tie.Need-put-number-requires-17 Inv-loop μ-loop
-put-number-requires-17 c κs = search needs
-
 loop-less-25 : tie.Need-loop-less-25 Inv-loop μ-loop
 loop-less-25 c = less (c .before .before .before .before .before .before)
 
@@ -509,9 +414,6 @@ unfolding okAs
 loop-again-26 c =
     let o = c .before .before .before .before in
     (turned (o .before .before .before), o .queue4 .ensures .1 (c .before .if7 .left))
-
-copy-requires : tie.Need-copy-requires Inv-loop μ-loop
-copy-requires c κs = search needs
 
 same-length : tie.Need-same-length Inv-loop μ-loop
 same-length c = search needs
@@ -532,127 +434,127 @@ feed-spec =
     part-line-end
     add-from
     line-end-requires-2
-    say-requires
-    of-requires
+    nothing-asked
+    nothing-asked
     enum-told
-    put-number-requires
+    nothing-asked
     loop-less
     loop-again
     enum-told-2
-    date-at-requires
+    nothing-asked
     bundle-at-requires
     enum-told-3
-    put-number-requires-2
+    nothing-asked
     loop-less-2
     loop-again-2
     enum-told-4
     chosen-requires
-    put-offer-requires
+    nothing-asked
     loop-less-3
     loop-again-3
     enum-told-5
     dry-run-kept-requires
-    put-offer-requires-2
+    nothing-asked
     loop-less-4
     loop-again-4
     enum-told-6
     chosen-requires-2
-    put-offer-requires-3
+    nothing-asked
     loop-less-5
     loop-again-5
     enum-told-7
     dry-run-kept-requires-2
-    put-offer-requires-4
+    nothing-asked
     loop-less-6
     loop-again-6
     enum-told-8
-    date-at-requires-2
+    nothing-asked
     bundle-at-requires-2
     dates-at-requires
     enum-told-9
-    put-number-requires-3
+    nothing-asked
     loop-less-7
     loop-again-7
     enum-told-10
     chosen-requires-3
-    refusal-requires
-    put-number-requires-4
+    nothing-asked
+    nothing-asked
     loop-less-8
     loop-again-8
     cut-requires
-    put-number-requires-5
+    nothing-asked
     loop-less-9
     loop-again-9
     enum-told-11
     dry-run-kept-requires-3
-    refusal-requires-2
-    put-number-requires-6
+    nothing-asked
+    nothing-asked
     loop-less-10
     loop-again-10
     set-requires
-    put-number-requires-7
+    nothing-asked
     loop-less-11
     loop-again-11
     enum-told-12
     chosen-requires-4
-    refusal-requires-3
-    put-number-requires-8
+    nothing-asked
+    nothing-asked
     loop-less-12
     loop-again-12
     cut-requires-2
-    put-number-requires-9
+    nothing-asked
     loop-less-13
     loop-again-13
     enum-told-13
     book-kept-requires
-    put-number-requires-10
+    nothing-asked
     loop-less-14
     loop-again-14
     enum-told-14
     enum-told-15
-    put-number-requires-11
+    nothing-asked
     loop-less-15
     loop-again-15
     enum-told-16
     call-requires
-    put-number-requires-12
+    nothing-asked
     loop-less-16
     loop-again-16
-    put-number-requires-13
+    nothing-asked
     loop-less-17
     loop-again-17
     enum-told-17
-    list-requires
+    nothing-asked
     loop-less-18
     loop-again-18
     enum-told-18
-    free-requires
-    put-number-requires-14
+    nothing-asked
+    nothing-asked
     loop-less-19
     loop-again-19
     loop-less-20
     loop-again-20
     enum-told-19
-    priority-requires
-    put-number-requires-15
+    nothing-asked
+    nothing-asked
     loop-less-21
     loop-again-21
     loop-less-22
     loop-again-22
     enum-told-20
-    polynomial-requires
-    put-number-requires-16
+    nothing-asked
+    nothing-asked
     loop-less-23
     loop-again-23
     loop-less-24
     loop-again-24
     enum-told-21
-    queue-requires
-    put-number-requires-17
+    nothing-asked
+    nothing-asked
     loop-less-25
     loop-again-25
     loop-less-26
     loop-again-26
-    copy-requires
+    nothing-asked
     same-length
     returns)
