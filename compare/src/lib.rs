@@ -5,7 +5,7 @@
 //! that are compared ([`generate`]) and the comparison itself ([`drive`]).
 
 /// The original, built unchanged by `build.rs`.
-extern crate asabr;
+pub extern crate asabr;
 
 pub mod calls;
 pub mod drive;
@@ -19,6 +19,7 @@ pub mod priority;
 pub mod queue;
 pub mod refusal;
 pub mod segmented;
+pub mod serve;
 pub mod state;
 pub mod stated;
 

@@ -1,6 +1,8 @@
 //! What is open, and the answer to each line.
 
-use crate::frames::{self, Answer, Content, Dates, Frame, Load, Request};
+use crate::frames::{
+    self, Answer, Content, Dates, Frame, Load, PolyOpening, QueueOpening, RatedOpening, Request,
+};
 use crate::refusal::Refusal;
 use crate::{free, poly, priority, queue};
 
@@ -14,15 +16,50 @@ pub trait Record {
     fn dequeue(&mut self, load: Load) -> Result<(), Refusal>;
 }
 
+pub type Opened = Result<Box<dyn Record>, Refusal>;
+
+/// How each manager is opened.
+#[derive(Clone, Copy)]
+pub struct Openings {
+    pub free: fn(&RatedOpening) -> Opened,
+    pub priority: fn(&RatedOpening) -> Opened,
+    pub poly: fn(&PolyOpening) -> Opened,
+    pub queue: fn(&QueueOpening) -> Opened,
+}
+
+impl Openings {
+    /// The original's managers.
+    pub const ORIGINAL: Openings = Openings {
+        free: free::open,
+        priority: priority::open,
+        poly: poly::open,
+        queue: queue::open,
+    };
+}
+
 /// One open record or none, as the trace program holds it.
-#[derive(Default)]
 pub struct Oracle {
+    openings: Openings,
     open: Option<Box<dyn Record>>,
+}
+
+impl Default for Oracle {
+    fn default() -> Self {
+        Self::with(Openings::ORIGINAL)
+    }
 }
 
 impl Oracle {
     pub fn new() -> Self {
         Self::default()
+    }
+
+    /// The same frames over other managers.
+    pub fn with(openings: Openings) -> Self {
+        Oracle {
+            openings,
+            open: None,
+        }
     }
 
     /// The answer to a line, both without their line ends.
@@ -53,10 +90,10 @@ impl Oracle {
 
     fn call(&mut self, frame: &Frame) -> Answer {
         match frame {
-            Frame::OpenFree(opening) => self.put(free::open(opening)),
-            Frame::OpenPriority(opening) => self.put(priority::open(opening)),
-            Frame::OpenPoly(opening) => self.put(poly::open(opening)),
-            Frame::OpenQueue(opening) => self.put(queue::open(opening)),
+            Frame::OpenFree(opening) => self.put((self.openings.free)(opening)),
+            Frame::OpenPriority(opening) => self.put((self.openings.priority)(opening)),
+            Frame::OpenPoly(opening) => self.put((self.openings.poly)(opening)),
+            Frame::OpenQueue(opening) => self.put((self.openings.queue)(opening)),
             Frame::DryRun(request) => self.dry_run(*request).map(Content::Offer),
             Frame::Book(request, stated) => done(self.record()?.book(*request, *stated)),
             Frame::List => self.record()?.list(),
@@ -74,7 +111,7 @@ impl Oracle {
     }
 
     /// A refused opening keeps the old record.
-    fn put(&mut self, opened: Result<Box<dyn Record>, Refusal>) -> Answer {
+    fn put(&mut self, opened: Opened) -> Answer {
         self.open = Some(opened?);
         Ok(Content::Nothing)
     }

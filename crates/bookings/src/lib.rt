@@ -20,15 +20,18 @@ ghost use Rattle.bookings.specs.Granted.{From, stateOf};
 pub mod cut;
 
 // One above the priority booked, 0 where nothing is: the source's -1 to 127.
+#[repr(C)]
 pub struct Level(pub u8);
 
 // Segment<i8>
+#[repr(C)]
 pub struct BookingSegment {
     pub start: Date,
     pub end: Date,
     pub level: Level,
 }
 
+#[repr(C)]
 pub struct Bookings {
     pub segments: [BookingSegment; Bookings::COUNT_MAX],
     pub count: usize,
@@ -58,6 +61,7 @@ pub enum Run {
 }
 
 // What a booking leaves of a segment: so many before the middle, and so many after it.
+#[repr(C)]
 pub struct Parts {
     pub before: BookingSegment,
     pub middle: BookingSegment,
@@ -67,6 +71,7 @@ pub struct Parts {
 }
 
 // A setting's answer: 0 and the list with the booking, or 10 and the list as it came.
+#[repr(C)]
 pub struct Set {
     pub number: u8,
     pub bookings: Bookings,

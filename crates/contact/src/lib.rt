@@ -18,6 +18,7 @@ ghost use Rattle.contact.specs.Record.{contactOk, delayList};
 pub mod opening;
 pub mod test;
 
+#[repr(C)]
 pub struct Contact {
     pub window: Interval,
     pub rates: [VolumeSegment; RateSegment::COUNT_MAX],
@@ -27,6 +28,7 @@ pub struct Contact {
 }
 
 // An opening's answer: 01's number, the total volume and the contact, all zero on a refusal.
+#[repr(C)]
 pub struct Opened {
     pub number: u8,
     pub total: Volume,

@@ -4,3 +4,4 @@ pub mod Few
 pub mod Unique
 pub mod Lengths
 pub mod Opened
+pub mod Sorted

@@ -16,14 +16,14 @@ use Rattle.frames.specs.Opening.{noFrame}
 use Rattle.frames.specs.declared.frame.Frame.{Frame}
 use Rattle.frames.specs.declared.frame.Frame.the-variants.{Wrong}
 use Rattle.frames.specs.Step.{on, changes, changeOf, showOf}
-use Rattle.frames.specs.Frame.{kindFrame}
+use Rattle.frames.specs.Granted.{kindFrame}
 
 -- the table's line of another kind
 miss : {A : Type 0} (a : A) {k n : ℕ} {r e : A} → (k ≡ n → ⊥) → e ≡ r → on k n a e ≡ r
 unfolding on
 miss a p q = rw (ne-eqb _ _ p) q
 
-or-no : {k n : ℕ} {b : Bool} → (k ≡ n → ⊥) → b ≡ false → (eqb k n || b) ≡ false
+pub or-no : {k n : ℕ} {b : Bool} → (k ≡ n → ⊥) → b ≡ false → (eqb k n || b) ≡ false
 or-no p q = rw (ne-eqb _ _ p) q
 
 -- what the tables say of a number, or of none of theirs, they say of the kind that was read

@@ -1,4 +1,4 @@
 pub mod Opening
-pub mod Frame
+pub mod Granted
 pub mod Calls
 pub mod Step

@@ -1,7 +1,7 @@
 // Which frame a line is, if any: its digits, its kind and its length, all tested.
 ghost use mathlib.Core.Path.{_≡_};
 ghost use mathlib.Core.Bool.{Bool};
-ghost use Rattle.frames.specs.Frame.{frameOf, whenOf};
+ghost use Rattle.frames.specs.Granted.{frameOf, whenOf};
 
 // The four openings, the calls, and 13 and 14 together; every other line is none.
 pub enum Frame {

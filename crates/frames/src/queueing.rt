@@ -4,7 +4,7 @@ use legacy::Queue;
 ghost use mathlib.Core.Path.{_≡_};
 ghost use mathlib.Core.Bool.{true};
 ghost use Rattle.legacy.specs.Record.{recordOk};
-ghost use Rattle.frames.specs.Frame.{queueingOf};
+ghost use Rattle.frames.specs.Granted.{queueingOf};
 
 pub fn call(line: &[u8], r: Queue) -> Booked
     requires { ⌜ recordOk r ≡ true ⌝ }

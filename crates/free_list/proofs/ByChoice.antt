@@ -8,7 +8,8 @@ use Rattle.units.specs.declared.Interval.{Interval}
 use Rattle.units.specs.declared.TxData.{TxData}
 use Rattle.units.specs.declared.Offer.{Offer}
 use Rattle.units.specs.Logic.{unless}
-use Rattle.units.specs.Answer.{refused, offers, refusalOf}
+use Rattle.units.specs.Answer.{refused, offers}
+use Rattle.units.specs.Granted.{refusalOf}
 use Rattle.units.proofs.Logic.{no-both, unless-go, unless-stop}
 use Rattle.units.proofs.Booking.{refusal-none, booking-refused, booking-fits}
 use Rattle.segmentation.specs.declared.DelaySegment.{DelaySegment}

@@ -22,6 +22,7 @@ ghost use Rattle.free_list.specs.Granted.{Inside, insertOf, leftIn, none
 
 pub mod walk;
 
+#[repr(C)]
 pub struct FreeList {
     pub segments: [VolumeSegment; FreeList::COUNT_MAX],
     pub count: usize,
@@ -38,12 +39,14 @@ pub enum Found {
 }
 
 // What a dry run finds: its answer, and the place of the listed segment behind it, 0 on a refusal.
+#[repr(C)]
 pub struct Chosen {
     pub offer: Offer,
     pub place: usize,
 }
 
 // A cut's answer: 0 and the list that is left, or 10 and the list as it came.
+#[repr(C)]
 pub struct Cut {
     pub number: u8,
     pub list: FreeList,

@@ -13,6 +13,7 @@ ghost use Rattle.free_list.specs.Listed.{listOk};
 ghost use Rattle.free_list.specs.Granted.{Window, WalkOk, startOf, turnOf, nextOf};
 
 // The place in the free list, the least start allowed there, the capacity found so far; the rate segment in hand.
+#[repr(C)]
 pub struct Walk {
     pub i: usize,
     pub low: Date,

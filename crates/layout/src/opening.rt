@@ -15,6 +15,7 @@ ghost use Rattle.layout.specs.Segments.{rateAt, delayAt, ratesAt, delays
 ghost use Rattle.layout.specs.Opening.{openingLength, openingOf};
 
 // What an opening with segments is given.
+#[repr(C)]
 pub struct Opening {
     pub window: Interval,
     pub rates: [RateSegment; RateSegment::COUNT_MAX],

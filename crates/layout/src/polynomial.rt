@@ -11,6 +11,7 @@ ghost use Rattle.layout.specs.Fields.{hasBytes};
 ghost use Rattle.layout.specs.Polynomial.{polynomeOf, polynomialLength, polynomialOf};
 
 // What the polynomial manager's opening is given.
+#[repr(C)]
 pub struct PolynomialOpening {
     pub window: Interval,
     pub polynome: Polynome,

@@ -11,6 +11,7 @@ ghost use mathlib.Core.Path.{_≡_};
 ghost use Rattle.layout.specs.Queue.{flagsOf, budgetsAt, isQueue, queueOf};
 
 // What the queue manager's opening is given.
+#[repr(C)]
 pub struct QueueOpening {
     pub window: Interval,
     pub rate: Rate,

@@ -8,4 +8,3 @@ pub mod Kept
 pub mod Inverse
 pub mod Unique
 pub mod Reach
-pub mod Stores

@@ -19,15 +19,16 @@ ghost use Rattle.legacy.specs.Queueing.{refusedQueueing, enqueueAt, dequ
 ghost use Rattle.legacy.specs.Book.{bookOf};
 ghost use Rattle.legacy.specs.List.{listOf};
 
-pub mod lent;
 pub mod volumes;
 
+#[repr(C)]
 pub struct Flags {
     pub add_delay: bool,
     pub self_update: bool,
     pub budgeted: bool,
 }
 
+#[repr(C)]
 pub struct Queue {
     pub window: Interval,
     pub rate: Rate,
@@ -39,18 +40,21 @@ pub struct Queue {
 }
 
 // The answer of an opening: 01's number and the record, which is zero on a refusal.
+#[repr(C)]
 pub struct Opened {
     pub number: u8,
     pub manager: Queue,
 }
 
 // The answer of a booking or of manual queueing: 01's number and the record, which is the one that came on a refusal.
+#[repr(C)]
 pub struct Booked {
     pub number: u8,
     pub manager: Queue,
 }
 
 // The answer of a list: 01's number, the class count and each class's queue, zero on a refusal.
+#[repr(C)]
 pub struct Listing {
     pub number: u8,
     pub classes: usize,

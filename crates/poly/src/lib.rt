@@ -12,6 +12,7 @@ ghost use Rattle.poly.specs.Granted.{InRange, Ranged};
 
 pub mod signed;
 
+#[repr(C)]
 pub struct Polynome {
     pub coefficients: [i64; Polynome::COEFFICIENTS],
     pub offset: Date,

@@ -11,7 +11,7 @@ use Rattle.units.specs.declared.Interval.{Interval}
 use Rattle.units.specs.declared.TxData.{TxData}
 use Rattle.units.specs.declared.Bundle.{Bundle}
 use Rattle.units.specs.Logic.{both}
-use Rattle.units.specs.Answer.{refusalOf}
+use Rattle.units.specs.Granted.{refusalOf}
 use Rattle.units.specs.Arrays.{padded}
 use Rattle.units.proofs.Numbers.{eq-or-ne}
 use Rattle.units.proofs.Windows.{window}

@@ -31,6 +31,7 @@ ghost use Rattle.poly_seg.specs.Book.{bookOf, cutFree, refusedBooking};
 ghost use Rattle.poly_seg.specs.List.{listOf};
 ghost use Rattle.poly_seg.specs.Granted.{chosenOf};
 
+#[repr(C)]
 pub struct PolySeg {
     pub window: Interval,
     pub polynome: Polynome,
@@ -40,18 +41,21 @@ pub struct PolySeg {
 }
 
 // The answer of an opening: 01's number and the record, which is zero on a refusal.
+#[repr(C)]
 pub struct Opened {
     pub number: u8,
     pub manager: PolySeg,
 }
 
 // The answer of a booking: 01's number and the record, which is the one that came on a refusal.
+#[repr(C)]
 pub struct Booked {
     pub number: u8,
     pub manager: PolySeg,
 }
 
 // The answer of a list: 01's number and the listed segments, none on a refusal.
+#[repr(C)]
 pub struct Listing {
     pub number: u8,
     pub list: FreeList,

@@ -9,7 +9,8 @@ use Rattle.units.specs.declared.TxData.{TxData}
 use Rattle.units.specs.declared.Bundle.{Bundle}
 use Rattle.units.specs.declared.Offer.{Offer}
 use Rattle.units.specs.Limits.{bundleOk}
-use Rattle.units.specs.Answer.{offers, refusalOf}
+use Rattle.units.specs.Answer.{offers}
+use Rattle.units.specs.Granted.{refusalOf}
 use Rattle.units.proofs.Logic.{no-both}
 use Rattle.units.proofs.Booking.{refusal-none, booking-refused, booking-fits}
 use Rattle.units.proofs.Loads.{asked-load, load}

@@ -12,7 +12,7 @@ use Rattle.units.specs.declared.Date.{Date}
 use Rattle.units.specs.declared.Interval.{Interval}
 use Rattle.units.specs.declared.TxData.{TxData}
 use Rattle.units.specs.declared.Bundle.{Bundle}
-use Rattle.units.specs.Answer.{refusalOf}
+use Rattle.units.specs.Granted.{refusalOf}
 use Rattle.units.proofs.Logic.{unless-keeps}
 use Rattle.units.proofs.Loads.{asked-load, load}
 use Rattle.units.proofs.Numbers.{le-or-lt, eq-or-ne}

@@ -23,24 +23,28 @@ ghost use Rattle.pseg.specs.DryRun.{dryRunOf};
 ghost use Rattle.pseg.specs.Book.{bookOf, setList, refusedBooking};
 ghost use Rattle.pseg.specs.List.{listOf};
 
+#[repr(C)]
 pub struct PrioritySeg {
     pub contact: Contact,
     pub bookings: Bookings,
 }
 
 // The answer of an opening: 01's number and the record, which is zero on a refusal.
+#[repr(C)]
 pub struct Opened {
     pub number: u8,
     pub manager: PrioritySeg,
 }
 
 // The answer of a booking: 01's number and the record, which is the one that came on a refusal.
+#[repr(C)]
 pub struct Booked {
     pub number: u8,
     pub manager: PrioritySeg,
 }
 
 // The answer of a list: 01's number and the listed segments, none on a refusal.
+#[repr(C)]
 pub struct Listing {
     pub number: u8,
     pub list: Bookings,

@@ -9,7 +9,8 @@ use Rattle.units.specs.declared.Bundle.{Bundle}
 use Rattle.units.specs.declared.Offer.{Offer}
 use Rattle.units.specs.Logic.{unless}
 use Rattle.units.specs.Limits.{bundleOk}
-use Rattle.units.specs.Answer.{refused, offers, refusalOf}
+use Rattle.units.specs.Answer.{refused, offers}
+use Rattle.units.specs.Granted.{refusalOf}
 use Rattle.units.proofs.Logic.{unless-go, unless-stop}
 use Rattle.units.proofs.Loads.{asked-load, load}
 use Rattle.segmentation.specs.declared.DelaySegment.{DelaySegment}

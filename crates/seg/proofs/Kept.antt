@@ -13,7 +13,7 @@ use Rattle.units.specs.declared.Interval.{Interval}
 use Rattle.units.specs.declared.TxData.{TxData}
 use Rattle.units.specs.declared.Bundle.{Bundle}
 use Rattle.units.specs.Logic.{unless}
-use Rattle.units.specs.Answer.{refusalOf}
+use Rattle.units.specs.Granted.{refusalOf}
 use Rattle.units.proofs.Numbers.{eq-or-ne}
 use Rattle.units.proofs.Loads.{asked-load, load}
 use Rattle.segmentation.specs.declared.RateSegment.{RateSegment}

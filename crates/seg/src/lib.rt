@@ -22,24 +22,28 @@ ghost use Rattle.seg.specs.Book.{bookOf, cutFree, refusedBooking};
 ghost use Rattle.seg.specs.List.{listOf};
 ghost use Rattle.seg.specs.Granted.{chosenOf};
 
+#[repr(C)]
 pub struct FreeVolume {
     pub contact: Contact,
     pub free: FreeList,
 }
 
 // The answer of an opening: 01's number and the record, which is zero on a refusal.
+#[repr(C)]
 pub struct Opened {
     pub number: u8,
     pub manager: FreeVolume,
 }
 
 // The answer of a booking: 01's number and the record, which is the one that came on a refusal.
+#[repr(C)]
 pub struct Booked {
     pub number: u8,
     pub manager: FreeVolume,
 }
 
 // The answer of a list: 01's number and the listed segments, none on a refusal.
+#[repr(C)]
 pub struct Listing {
     pub number: u8,
     pub list: FreeList,

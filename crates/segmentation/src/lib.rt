@@ -16,6 +16,7 @@ ghost use Rattle.segmentation.specs.Delay.{delaysOf, answerOf, answerWit
 ghost use Rattle.segmentation.specs.Granted.{SegOk, Covers, Runs, Short, AllShort, Placed};
 
 // Segment<DataRate>: what an opening is given.
+#[repr(C)]
 pub struct RateSegment {
     pub start: Date,
     pub end: Date,
@@ -23,6 +24,7 @@ pub struct RateSegment {
 }
 
 // Segment<Volume>: a rate times its length, or a listed stretch of free time with its volume.
+#[repr(C)]
 pub struct VolumeSegment {
     pub start: Date,
     pub end: Date,
@@ -30,6 +32,7 @@ pub struct VolumeSegment {
 }
 
 // Segment<Duration>
+#[repr(C)]
 pub struct DelaySegment {
     pub start: Date,
     pub end: Date,

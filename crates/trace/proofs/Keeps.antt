@@ -8,7 +8,7 @@ use Rattle.units.specs.declared.Date.{Date}
 use Rattle.units.specs.declared.Bundle.{Bundle}
 use Rattle.units.specs.declared.TxData.{TxData}
 use Rattle.units.specs.declared.Offer.{Offer}
-use Rattle.units.specs.Answer.{refusalOf}
+use Rattle.units.specs.Granted.{refusalOf}
 use Rattle.units.proofs.Logic.{pick-keeps}
 use Rattle.free_list.specs.declared.Chosen.{Chosen}
 use Rattle.free_list.specs.declared.Cut.{Cut}
@@ -44,7 +44,7 @@ use Rattle.held.specs.declared.Kind.{Kind}
 use Rattle.held.specs.declared.Kind.the-variants.{Free, Priority, Polynomial, Queue}
 use Rattle.held.specs.Rules.{okAs, heldOk}
 use Rattle.held.proofs.ByKind.{ok-as, kept-as}
-use Rattle.frames.specs.Frame.{queueingOf}
+use Rattle.frames.specs.Granted.{queueingOf}
 
 module _ (h : Held) (ok : heldOk h ≡ true) where
   -- what is held next, of the same kind, keeps its rules where the record of the kind does

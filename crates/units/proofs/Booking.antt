@@ -8,7 +8,8 @@ use borrow.Author.Tests.{eqb-true, eq-eqb, ne-eqb}
 use Rattle.units.specs.declared.Offer.{Offer}
 use Rattle.units.specs.declared.TxData.{TxData}
 use Rattle.units.specs.Logic.{unless, pick}
-use Rattle.units.specs.Answer.{offers, refusalOf}
+use Rattle.units.specs.Answer.{offers}
+use Rattle.units.specs.Granted.{refusalOf}
 use Rattle.units.proofs.Logic.{no-both, both-fst, unless-go, unless-stop}
 use Rattle.units.proofs.Choice.{pick-yes, pick-no}
 

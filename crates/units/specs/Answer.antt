@@ -6,7 +6,7 @@ use Rattle.units.specs.declared.Date.{Date}
 use Rattle.units.specs.declared.Interval.{Interval}
 use Rattle.units.specs.declared.TxData.{TxData}
 use Rattle.units.specs.declared.Offer.{Offer}
-use Rattle.units.specs.Logic.{both, pick}
+use Rattle.units.specs.Logic.{both}
 
 abbrev pub interval : ℕ → ℕ → Interval
 interval a b = record { start = record { 0 = a }; end = record { 0 = b } }
@@ -29,7 +29,3 @@ sameDates a b =
 -- refusal 9 is given unless the dry run answers 0 with these four dates
 unfoldable pub offers : Offer → TxData → Bool
 offers o d = both (eqb (o .number) 0) (sameDates (o .dates) d)
-
--- a booking's refusal by what the dry run answers: 2 comes before 9; 0 is none
-unfoldable pub refusalOf : Offer → TxData → ℕ
-refusalOf o d = pick (eqb (o .number) 2) 2 (pick (offers o d) 0 9)

@@ -1,4 +1,5 @@
 pub mod Logic
 pub mod Limits
 pub mod Answer
+pub mod Granted
 pub mod Arrays

@@ -2,39 +2,49 @@
 ghost use mathlib.Core.Path.{_≡_};
 ghost use Prim.Native.Nat.{_+_, _≤_, _^_, min, max};
 ghost use Rattle.units.specs.Limits.{bundleOk, loadOk, windowOk};
-ghost use Rattle.units.specs.Answer.{refused, sameDates, offers, refusalOf};
+ghost use Rattle.units.specs.Answer.{refused, sameDates, offers};
+ghost use Rattle.units.specs.Granted.{refusalOf};
 
 pub mod refusal;
 
+#[repr(C)]
 pub struct Date(pub u64);
 
+#[repr(C)]
 pub struct Volume(pub u64);
 
+#[repr(C)]
 pub struct Rate(pub u64);
 
+#[repr(C)]
 pub struct Delay(pub u64);
 
+#[repr(C)]
 pub struct Priority(pub u8);
 
 // types.rs: TimeInterval
+#[repr(C)]
 pub struct Interval {
     pub start: Date,
     pub end: Date,
 }
 
 // contact_manager/mod.rs: ContactManagerTxData
+#[repr(C)]
 pub struct TxData {
     pub send: Interval,
     pub recv: Interval,
 }
 
 // bundle.rs: Bundle
+#[repr(C)]
 pub struct Bundle {
     pub size: Volume,
     pub priority: Priority,
 }
 
 // What a dry run answers: 01's number, and the four dates, which are zero unless the number is.
+#[repr(C)]
 pub struct Offer {
     pub number: u8,
     pub dates: TxData,

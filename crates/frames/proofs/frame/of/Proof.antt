@@ -7,7 +7,7 @@ use Rattle.hex.specs.Digits.{byteAt}
 use Rattle.frames.specs.declared.frame.Frame.{Frame}
 use Rattle.frames.specs.declared.frame.Frame.the-variants.{Wrong, Free, Priority, Polynomial, Queue, Offer, Booking, Listing, Queueing}
 use Rattle.frames.specs.Step.{on}
-use Rattle.frames.specs.Frame.{whenOf, kindFrame, frameOf}
+use Rattle.frames.specs.Granted.{whenOf, kindFrame, frameOf}
 use Rattle.frames.proofs.Lengths.{line-refused, line-answered}
 use Rattle.frames.proofs.Table.{frame-as, frame-none}
 use Rattle.frames.proofs.frame.of.Statement.{statement}

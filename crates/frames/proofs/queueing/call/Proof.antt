@@ -5,7 +5,7 @@ use borrow.Author.Tests.{eq-eqb, ne-eqb}
 use Rattle.units.specs.declared.Bundle.{Bundle}
 use Rattle.units.proofs.Choice.{pick-yes, pick-no}
 use Rattle.legacy.specs.Queueing.{enqueueOf, dequeueOf}
-use Rattle.frames.specs.Frame.{queueingOf}
+use Rattle.frames.specs.Granted.{queueingOf}
 use Rattle.frames.proofs.queueing.call.Statement.{statement}
 use Rattle.frames.proofs.queueing.call.Tie as tie
 

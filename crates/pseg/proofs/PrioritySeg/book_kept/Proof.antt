@@ -3,7 +3,7 @@ use borrow.Author.Needs.{needs}
 use Prim.Native.Nat.{ℕ}
 use mathlib.Core.Path.{_≡_, sym, ap, _∙_}
 use Rattle.units.specs.declared.Offer.{Offer}
-use Rattle.units.specs.Answer.{refusalOf}
+use Rattle.units.specs.Granted.{refusalOf}
 use Rattle.bookings.specs.declared.Set.{Set}
 use Rattle.pseg.specs.DryRun.{dryRunOf}
 use Rattle.pseg.specs.declared.Booked.{Booked}

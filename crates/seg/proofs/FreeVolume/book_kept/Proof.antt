@@ -2,7 +2,7 @@
 use borrow.Author.Needs.{needs}
 use Prim.Native.Nat.{ℕ}
 use mathlib.Core.Path.{_≡_, sym, ap, _∙_}
-use Rattle.units.specs.Answer.{refusalOf}
+use Rattle.units.specs.Granted.{refusalOf}
 use Rattle.free_list.specs.declared.Chosen.{Chosen}
 use Rattle.free_list.specs.declared.Cut.{Cut}
 use Rattle.seg.specs.Book.{refusedBooking, cutFree}

@@ -2,7 +2,7 @@
 use borrow.Author.Needs.{needs}
 use borrow.Author.Tests.{eq-eqb, ne-eqb}
 use mathlib.Core.Path.{sym, _∙_}
-use Rattle.units.specs.Answer.{refusalOf}
+use Rattle.units.specs.Granted.{refusalOf}
 use Rattle.units.proofs.Choice.{pick-yes, pick-no, told-yes, told-no}
 use Rattle.units.proofs.Offer.refusal.Statement.{statement}
 use Rattle.units.proofs.Offer.refusal.Tie as tie

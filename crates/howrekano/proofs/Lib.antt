@@ -1,0 +1,10 @@
+pub mod Known
+pub mod Answer
+pub mod Outcome
+pub mod Thin
+pub mod Lends
+pub mod Asks
+pub mod Stores
+pub mod Queues
+pub mod Types
+pub mod Unique

@@ -1,0 +1,250 @@
+//! The library's functions, and the manager type over them. All `unsafe` of
+//! this package is in this file.
+//!
+//! Each function has two doors. The total one tests its record and is safe
+//! with any record. The kept one tests nothing: it may be called only with a
+//! record that keeps its rules, and [`Manager`] holds no other.
+
+use std::mem::MaybeUninit;
+
+use crate::record::{
+    Bookings, Classes, FreeList, FreeVolume, Opening, PolySeg, PolynomialOpening, PrioritySeg,
+    Queue, QueueOpening,
+};
+use crate::refusal::Refusal;
+use crate::segments::{Bundle, Offer};
+
+/// How the library answers: document 01's number, and what goes with a 0.
+#[repr(C)]
+pub struct Answer<T> {
+    number: u8,
+    value: T,
+}
+
+impl<T> Answer<T> {
+    fn result(self) -> Result<T, Refusal> {
+        Refusal::unless_done(self.number).map(|()| self.value)
+    }
+}
+
+mod sealed {
+    pub trait Sealed {}
+}
+
+/// A manager's record as plain data, and the total calls on it: they test the
+/// record and refuse a damaged one with 1.
+pub trait Record: Copy + PartialEq + sealed::Sealed {
+    /// What it is opened with.
+    type Opening;
+    /// What it lists.
+    type List;
+
+    /// The record that these figures open.
+    fn opened(opening: &Self::Opening) -> Result<Self, Refusal>;
+
+    /// Does the record keep its rules?
+    fn is_kept(&self) -> bool;
+
+    /// What the record lists.
+    fn listed(&self) -> Result<Self::List, Refusal>;
+
+    /// When could the bundle be sent, asked at this time?
+    fn dry_run(&self, at: u64, bundle: Bundle) -> Result<Offer, Refusal>;
+
+    /// Books what a dry run at this time offers. A refusal leaves the record as
+    /// it came.
+    fn book(&mut self, at: u64, bundle: Bundle, offer: Offer) -> Result<(), Refusal>;
+
+    /// [`Record::dry_run`] without the test.
+    ///
+    /// # Safety
+    /// The record keeps its rules: [`Record::is_kept`] is true.
+    unsafe fn dry_run_kept(&self, at: u64, bundle: Bundle) -> Result<Offer, Refusal>;
+
+    /// [`Record::book`] without the test.
+    ///
+    /// # Safety
+    /// The record keeps its rules: [`Record::is_kept`] is true.
+    unsafe fn book_kept(&mut self, at: u64, bundle: Bundle, offer: Offer) -> Result<(), Refusal>;
+}
+
+/// Lets a function of the library write its answer.
+fn answered<T>(call: impl FnOnce(*mut Answer<T>)) -> Result<T, Refusal> {
+    let mut answer = MaybeUninit::uninit();
+    call(answer.as_mut_ptr());
+    // SAFETY: the functions below write the whole answer before they return.
+    unsafe { answer.assume_init() }.result()
+}
+
+// A function that answers with a record of more than 16 bytes takes the place
+// of the answer as its first argument and returns it: the C convention of
+// x86-64 for such an answer, spelt out, so that it is the same on every
+// processor that the library is compiled for.
+macro_rules! record {
+    ($record:ident, $opening:ident, $list:ident: $open:ident, $ok:ident, $listed:ident,
+     $dry_run:ident, $dry_run_kept:ident, $book:ident, $book_kept:ident) => {
+        unsafe extern "C" {
+            fn $open(out: *mut Answer<$record>, x: *const $opening) -> *mut Answer<$record>;
+            fn $ok(m: *const $record) -> u8;
+            fn $listed(out: *mut Answer<$list>, m: *const $record) -> *mut Answer<$list>;
+            fn $dry_run(
+                out: *mut Answer<Offer>,
+                m: *const $record,
+                at: u64,
+                bundle: Bundle,
+            ) -> *mut Answer<Offer>;
+            fn $dry_run_kept(
+                out: *mut Answer<Offer>,
+                m: *const $record,
+                at: u64,
+                bundle: Bundle,
+            ) -> *mut Answer<Offer>;
+            fn $book(m: *mut $record, at: u64, bundle: Bundle, offer: *const Offer) -> u8;
+            fn $book_kept(m: *mut $record, at: u64, bundle: Bundle, offer: *const Offer) -> u8;
+        }
+
+        impl sealed::Sealed for $record {}
+
+        // SAFETY, for the total calls: the pointers are of references, or of
+        // the answer's place, and the functions ask nothing else.
+        impl Record for $record {
+            type Opening = $opening;
+            type List = $list;
+
+            fn opened(opening: &$opening) -> Result<Self, Refusal> {
+                // SAFETY: see above.
+                answered(|out| unsafe {
+                    $open(out, opening);
+                })
+            }
+
+            fn is_kept(&self) -> bool {
+                // SAFETY: see above.
+                unsafe { $ok(self) != 0 }
+            }
+
+            fn listed(&self) -> Result<$list, Refusal> {
+                // SAFETY: see above.
+                answered(|out| unsafe {
+                    $listed(out, self);
+                })
+            }
+
+            fn dry_run(&self, at: u64, bundle: Bundle) -> Result<Offer, Refusal> {
+                // SAFETY: see above.
+                answered(|out| unsafe {
+                    $dry_run(out, self, at, bundle);
+                })
+            }
+
+            fn book(&mut self, at: u64, bundle: Bundle, offer: Offer) -> Result<(), Refusal> {
+                // SAFETY: see above.
+                Refusal::unless_done(unsafe { $book(self, at, bundle, &offer) })
+            }
+
+            unsafe fn dry_run_kept(&self, at: u64, bundle: Bundle) -> Result<Offer, Refusal> {
+                // SAFETY: see above; that the record keeps its rules is asked
+                // of the caller.
+                answered(|out| unsafe {
+                    $dry_run_kept(out, self, at, bundle);
+                })
+            }
+
+            unsafe fn book_kept(
+                &mut self,
+                at: u64,
+                bundle: Bundle,
+                offer: Offer,
+            ) -> Result<(), Refusal> {
+                // SAFETY: see above; that the record keeps its rules is asked
+                // of the caller.
+                Refusal::unless_done(unsafe { $book_kept(self, at, bundle, &offer) })
+            }
+        }
+    };
+}
+
+record!(FreeVolume, Opening, FreeList: hk_free_open, hk_free_ok, hk_free_list,
+    hk_free_dry_run, hk_free_dry_run_kept, hk_free_book, hk_free_book_kept);
+record!(PrioritySeg, Opening, Bookings: hk_priority_open, hk_priority_ok, hk_priority_list,
+    hk_priority_dry_run, hk_priority_dry_run_kept, hk_priority_book, hk_priority_book_kept);
+record!(PolySeg, PolynomialOpening, FreeList: hk_polynomial_open, hk_polynomial_ok,
+    hk_polynomial_list, hk_polynomial_dry_run, hk_polynomial_dry_run_kept, hk_polynomial_book,
+    hk_polynomial_book_kept);
+record!(Queue, QueueOpening, Classes: hk_queue_open, hk_queue_ok, hk_queue_list,
+    hk_queue_dry_run, hk_queue_dry_run_kept, hk_queue_book, hk_queue_book_kept);
+
+unsafe extern "C" {
+    fn hk_queue_enqueue(m: *mut Queue, bundle: Bundle) -> u8;
+    fn hk_queue_enqueue_kept(m: *mut Queue, bundle: Bundle) -> u8;
+    fn hk_queue_dequeue(m: *mut Queue, bundle: Bundle) -> u8;
+    fn hk_queue_dequeue_kept(m: *mut Queue, bundle: Bundle) -> u8;
+}
+
+impl Queue {
+    /// [`Manager::enqueue`] on any record: a damaged one is refused.
+    pub fn enqueue(&mut self, bundle: Bundle) -> Result<(), Refusal> {
+        // SAFETY: the pointer is of a reference; the total call asks nothing else.
+        Refusal::unless_done(unsafe { hk_queue_enqueue(self, bundle) })
+    }
+
+    /// [`Manager::dequeue`] on any record: a damaged one is refused.
+    pub fn dequeue(&mut self, bundle: Bundle) -> Result<(), Refusal> {
+        // SAFETY: the pointer is of a reference; the total call asks nothing else.
+        Refusal::unless_done(unsafe { hk_queue_dequeue(self, bundle) })
+    }
+}
+
+/// A manager: a record that keeps its rules. It comes from an opening or from
+/// a tested record, and every call is proved to leave one that keeps them.
+#[derive(Clone, Copy, Debug, PartialEq, Eq)]
+pub struct Manager<R: Record>(R);
+
+impl<R: Record> Manager<R> {
+    pub(crate) fn opened(opening: &R::Opening) -> Result<Self, Refusal> {
+        R::opened(opening).map(Manager)
+    }
+
+    /// Takes up a record from elsewhere. A damaged one is refused.
+    pub fn from_record(record: R) -> Result<Self, Refusal> {
+        match record.is_kept() {
+            true => Ok(Manager(record)),
+            false => Err(Refusal::RECORD),
+        }
+    }
+
+    /// The record, to be looked at or kept elsewhere.
+    pub fn record(&self) -> &R {
+        &self.0
+    }
+
+    /// When could the bundle be sent, asked at this time? Nothing is booked.
+    pub fn dry_run(&self, at: u64, bundle: Bundle) -> Result<Offer, Refusal> {
+        // SAFETY: the record of a manager keeps its rules.
+        unsafe { self.0.dry_run_kept(at, bundle) }
+    }
+
+    /// Books what a dry run at this time offers. Where the record has changed
+    /// so that it offers something else, the booking is refused with
+    /// [`Refusal::NOT_OFFERED`] and the record is as before.
+    pub fn book(&mut self, at: u64, bundle: Bundle, offer: Offer) -> Result<(), Refusal> {
+        // SAFETY: the record of a manager keeps its rules, and a booking
+        // leaves one that does.
+        unsafe { self.0.book_kept(at, bundle, offer) }
+    }
+}
+
+impl Manager<Queue> {
+    /// Adds the size to the queues of the bundle's class and those below it.
+    pub fn enqueue(&mut self, bundle: Bundle) -> Result<(), Refusal> {
+        // SAFETY: the pointer is of a reference; the record of a manager keeps
+        // its rules, and queueing leaves one that does.
+        Refusal::unless_done(unsafe { hk_queue_enqueue_kept(&mut self.0, bundle) })
+    }
+
+    /// Takes the size from the queues that [`Manager::enqueue`] adds it to.
+    pub fn dequeue(&mut self, bundle: Bundle) -> Result<(), Refusal> {
+        // SAFETY: as for `enqueue`.
+        Refusal::unless_done(unsafe { hk_queue_dequeue_kept(&mut self.0, bundle) })
+    }
+}
