@@ -42,13 +42,13 @@ pub struct BookingSegment {
     pub start: u64,
     pub end: u64,
     /// 0 where nothing is booked, else the priority and one.
-    pub(crate) level: u8,
+    pub(crate) level: u64,
 }
 
 impl BookingSegment {
     /// The priority that the stretch is booked for, if any.
     pub fn priority(&self) -> Option<u8> {
-        self.level.checked_sub(1)
+        self.level.checked_sub(1)?.try_into().ok()
     }
 }
 

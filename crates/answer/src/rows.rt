@@ -37,13 +37,13 @@ fn put_volume(out: &mut [u8; LINE], at: usize, s: VolumeSegment)
 }
 
 // The priority of a level as two's complement: -1 for 0.
-fn value(level: u8) -> u64
+fn value(level: u64) -> u64
     ensures { λ r. ⌜ r ≡ bitsOf (valueOf (record { 0 = level })) ⌝ }
 {
     if level == 0 {
         return 18446744073709551615;
     }
-    (level - 1) as u64
+    level - 1
 }
 
 fn put_booking(out: &mut [u8; LINE], at: usize, s: BookingSegment)

@@ -20,6 +20,7 @@ use Rattle.bookings.proofs.cover_ok.Reads as cover-ok-reads
 use Rattle.bookings.proofs.no_booking.Reads as no-booking-reads
 use Rattle.bookings.proofs.unused.Reads as unused-reads
 use Rattle.bookings.proofs.reach.Reads as reach-reads
+use Rattle.bookings.proofs.state.Reads as state-reads
 use Rattle.bookings.proofs.begin.Reads as begin-reads
 use Rattle.bookings.proofs.broken.Reads as broken-reads
 use Rattle.bookings.proofs.turn.Reads as turn-reads
@@ -45,6 +46,9 @@ unused-unique segments count r q x y f g = f ∙ sym g
 
 pub reach-unique : (to : Date) (run : Interval) → Determined (reach-reads.Post tt (to, (run, tt)))
 reach-unique to run r q x y f g = f ∙ sym g
+
+pub state-unique : (going : Bool) (run : Interval) → Determined (state-reads.Post tt (going, (run, tt)))
+state-unique going run r q x y f g = f ∙ sym g
 
 pub begin-unique : (rates : List VolumeSegment) (m : ℕ) (to start : Date) (size : Volume) (deadline : Date)
     → Determined (begin-reads.Post tt (rates, (m, (to, (start, (size, (deadline, tt)))))))

@@ -21,7 +21,7 @@ pub mod cut;
 
 // One above the priority booked, 0 where nothing is: the source's -1 to 127.
 #[repr(C)]
-pub struct Level(pub u8);
+pub struct Level(pub u64);
 
 // Segment<i8>
 #[repr(C)]
@@ -42,14 +42,14 @@ impl Bookings {
 }
 
 impl Level {
-    pub const MAX: u8 = 128;
+    pub const MAX: u64 = 128;
 
     // From a priority to the level that it is booked at.
     pub fn of(priority: Priority) -> Level
         requires { ⌜ priority .0 ≤ 127 ⌝ }
         ensures { λ r. ⌜ r .0 ≡ priority .0 + 1 ⌝ }
     {
-        Level(priority.0 + 1)
+        Level(priority.0 as u64 + 1)
     }
 }
 
@@ -216,7 +216,7 @@ pub fn turn(
     if last.0 <= asked.0 {
         return now;
     }
-    if priority.0 < level.0 {
+    if (priority.0 as u64) < level.0 {
         return broken(now);
     }
     match now {
@@ -227,7 +227,7 @@ pub fn turn(
 }
 
 // A search that has found no offer yet, as two numbers: held as a `Run` it would be copied at each turn.
-fn state(going: bool, run: Interval) -> Run
+pub fn state(going: bool, run: Interval) -> Run
     ensures { λ r. ⌜ r ≡ stateOf going run ⌝ }
 {
     if going { Run::Going(run) } else { Run::Idle }

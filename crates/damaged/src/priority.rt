@@ -70,7 +70,7 @@ fn fresh() -> PrioritySeg {
     o.manager
 }
 
-fn segment(a: u64, b: u64, w: u8) -> BookingSegment {
+fn segment(a: u64, b: u64, w: u64) -> BookingSegment {
     BookingSegment {
         start: Date(a),
         end: Date(b),

@@ -20,6 +20,9 @@ low c = omega (arith, c .if2 .left)
 returns : tie.Need-returns
 returns c = sym (turn-skip _ _ _ _ _ (omega (arith, c .if1 .taken)))
 
+cast-if2 : tie.Need-cast-if2
+cast-if2 c = search needs
+
 broken-requires : tie.Need-broken-requires
 broken-requires c κs = search needs
 
@@ -72,6 +75,7 @@ turn-spec =
     tie.close
     (tie.spec
     returns
+    cast-if2
     broken-requires
     returns-2
     enum-told

@@ -11,11 +11,8 @@ returns c = omega (arith, none-bits (c .before .args .level) (omega arith))
 sub-result : tie.Need-sub-result
 sub-result c = search needs
 
-cast-result : tie.Need-cast-result
-cast-result c = search needs
-
 returns-2 : tie.Need-returns-2
 returns-2 c = omega (arith, level-bits (c .before .args .level) (λ e. omega arith))
 
 pub value-spec : {M : Type 1} → statement M
-value-spec = tie.close (tie.spec returns sub-result cast-result returns-2)
+value-spec = tie.close (tie.spec returns sub-result returns-2)

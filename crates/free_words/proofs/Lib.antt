@@ -1,0 +1,2 @@
+pub mod CutHere
+pub mod Unique

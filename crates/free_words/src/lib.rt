@@ -1,0 +1,143 @@
+// Lists of free time lent as numbers: the search for an offer, and the cut of a booking where the list stands.
+use free_list::Found;
+use segmentation::End;
+use segmentation::VolumeSegment;
+use units::Date;
+use units::Interval;
+use units::Volume;
+use words::listed_at;
+use words::put_at;
+ghost use mathlib.Core.Path.{_≡_};
+ghost use mathlib.Core.Bool.{true};
+ghost use Prim.Native.Nat.{_<_, _≤_};
+ghost use lib.ListN.{take};
+ghost use Rattle.segmentation.specs.Granted.{Run, Runs, Covers};
+ghost use Rattle.segmentation.specs.End.{endOf};
+ghost use Rattle.free_list.specs.Listed.{listOk};
+ghost use Rattle.free_list.specs.Offer.{offerOf};
+ghost use Rattle.free_list.specs.Cut.{stretchOf, cutList};
+ghost use Rattle.free_list.specs.Granted.{Inside, insertOf, endIn};
+ghost use Rattle.words.specs.Words.{volumesIn};
+ghost use Rattle.free_words.specs.Words.{freeIn};
+
+// Lent as a slice, an array tells its length; no code is left of it.
+fn told(words: &[u64]) {}
+
+// The end that a listed segment has for the bundle: none if it ends before the asked time or lists less than the size.
+pub fn end_in(rates: &[u64; 48], m: usize, g: VolumeSegment, asked: Date, size: Volume) -> End
+    requires { ⌜ m ≤ 16 ⌝ ∗ ⌜ 0 < size .0 ⌝ ∗ ⌜ Covers (g .start .0) (take m (volumesIn (now rates))) ⌝ }
+    ensures { λ r. ⌜ r ≡ endIn (endOf (take m (volumesIn (now (rates .entry))))) g (asked .0) (size .0) ⌝ }
+{
+    let end = g.end;
+    if end.0 < asked.0 {
+        return End::None;
+    }
+    if g.volume.0 < size.0 {
+        return End::None;
+    }
+    let from = units::later(g.start, asked);
+    words::find_end(rates, m, from, size, end)
+}
+
+// dry_run_tx: the first listed segment that has an end for the bundle.
+pub fn find_offer(
+    rates: &[u64; 48],
+    m: usize,
+    free: &[u64; 192],
+    n: usize,
+    window: Interval,
+    asked: Date,
+    size: Volume,
+) -> Found
+    requires { ⌜ m ≤ 16 ⌝ ∗ ⌜ n ≤ 64 ⌝ ∗ ⌜ 0 < size .0 ⌝ ∗ ⌜ Run (window .start .0) (take m (volumesIn (now rates))) ⌝ ∗ ⌜ listOk (take m (volumesIn (now rates))) (window .start .0) (window .end .0) (take n (volumesIn (now free))) ≡ true ⌝ }
+    ensures { λ r. ⌜ r ≡ offerOf (endOf (take m (volumesIn (now (rates .entry))))) (take n (volumesIn (now (free .entry)))) (asked .0) (size .0) ⌝ }
+{
+    told(free);
+    let mut i: usize = 0;
+    loop {
+        if n <= i {
+            break Found::None;
+        }
+        let g = listed_at(free, i);
+        let End::At(e) = end_in(rates, m, g, asked, size) else {
+            i += 1;
+            continue;
+        };
+        let from = units::later(g.start, asked);
+        break Found::At {
+            place: i,
+            send: Interval {
+                start: from,
+                end: e,
+            },
+        };
+    }
+}
+
+// One more segment at a place, those from it on moved up.
+pub fn insert(free: &mut [u64; 192], n: usize, i: usize, s: VolumeSegment)
+    requires { ⌜ i ≤ n ⌝ ∗ ⌜ n < 64 ⌝ }
+    ensures { λ r. ⌜ volumesIn (now (free .exit)) ≡ insertOf (volumesIn (now (free .entry))) n i s ⌝ }
+{
+    told(free);
+    let mut j = n;
+    while i < j {
+        let k = j - 1;
+        let x = listed_at(free, k);
+        put_at(free, j, x);
+        j = k;
+    }
+    put_at(free, i, s);
+}
+
+// A stretch of free time with its volume worked out anew.
+pub fn stretch(rates: &[u64; 48], m: usize, start: Date, end: Date) -> VolumeSegment
+    requires { ⌜ m ≤ 16 ⌝ ∗ ⌜ Runs (take m (volumesIn (now rates))) ⌝ }
+    ensures { λ r. ⌜ r ≡ stretchOf (take m (volumesIn (now (rates .entry)))) (start .0) (end .0) ⌝ }
+{
+    let volume = words::volume_between(rates, m, start, end);
+    VolumeSegment {
+        start: start,
+        end: end,
+        volume: volume,
+    }
+}
+
+// schedule_tx: cuts the booking out of the list where it stands; 10, and the list as it was, where there is no room for one more.
+pub fn cut(
+    rates: &[u64; 48],
+    m: usize,
+    free: &mut [u64; 192],
+    count: &mut usize,
+    place: usize,
+    send: Interval,
+    size: Volume,
+) -> u8
+    requires { ⌜ m ≤ 16 ⌝ ∗ ⌜ Runs (take m (volumesIn (now rates))) ⌝ ∗ ⌜ Inside (freeIn (now free) (now count)) place (size .0) ⌝ }
+    ensures { λ r. ⌜ r ≡ cutList (take m (volumesIn (now (rates .entry)))) (freeIn (now (free .entry)) (now (count .entry))) place (send .start .0) (send .end .0) (size .0) .number ⌝ ∗ ⌜ freeIn (now (free .exit)) (now (count .exit)) ≡ cutList (take m (volumesIn (now (rates .entry)))) (freeIn (now (free .entry)) (now (count .entry))) place (send .start .0) (send .end .0) (size .0) .list ⌝ }
+{
+    told(free);
+    let from = send.start;
+    let to = send.end;
+    let n = *count;
+    let g = listed_at(free, place);
+    let start = g.start;
+    let end = g.end;
+    if start.0 == from.0 {
+        put_at(free, place, free_list::rest(g, to, size));
+        return 0;
+    }
+    let before = stretch(rates, m, start, from);
+    if from.0 == to.0 {
+        put_at(free, place, before);
+        return 0;
+    }
+    if free_list::FreeList::COUNT_MAX <= n {
+        return units::refusal::FULL;
+    }
+    let after = stretch(rates, m, to, end);
+    insert(free, n, place + 1, after);
+    put_at(free, place, before);
+    *count = n + 1;
+    0
+}

@@ -1,0 +1,78 @@
+-- `words::delay_place` meets its contract. The invariant: the lookup from the loop's place on finds what is asked.
+use borrow.Author.Needs.{needs}
+use Prim.Native.Nat.{_+_, _-_}
+use mathlib.Core.Path.{_≡_, refl}
+use mathlib.Core.List.{List, _∷_}
+use native.Mathlib.Omega.{arith}
+use lib.ListN.{length, take, drop}
+use Rattle.segmentation.proofs.DelayLoop.{Looking, look-end, look-here, look-on}
+use Rattle.segmentation.specs.declared.DelaySegment.{DelaySegment}
+use Rattle.words.specs.Words.{delayFrom, delaysIn}
+use Rattle.words.proofs.Threes.{first-count, first-at}
+use Rattle.words.proofs.delay_place.Statement.{statement}
+use Rattle.words.proofs.delay_place.Tie as tie
+
+abbrev Inv-loop : tie.InvT-loop
+Inv-loop delays count from date i₀ i = Looking (take count (delaysIn delays)) count from (date .0) i
+
+abbrev μ-loop : tie.MeasureT-loop
+μ-loop delays count from date i₀ i = count - i
+
+size-of : (c : tie.After-told-arg Inv-loop μ-loop) → length (c .before .args .delays .now) ≡ 48
+size-of c = search needs
+
+abbrev list : tie.Start Inv-loop μ-loop → List DelaySegment
+list c = take (c .args .count) (delaysIn (c .args .delays .now))
+
+-- the segment at the loop's place is the one read
+here : (c : tie.After-delay-at Inv-loop μ-loop)
+    → drop (c .before .before .loop .i) (list (c .before .before .before .before .before))
+    ≡ c .delay-at .result ∷ drop (c .before .before .loop .i + 1) (list (c .before .before .before .before .before))
+here c =
+    let told = c .before .before .before .before in
+    first-at delayFrom _ 16 _ (size-of told) (told .before .pre .0) _ _ _ (c .before .if1 .left) (c .delay-at .ensures)
+
+told-requires : tie.Need-told-requires Inv-loop μ-loop
+told-requires c κs = search needs
+
+loop-holds : tie.Need-loop-holds Inv-loop μ-loop
+loop-holds c = record { low = c .before .before .pre .1; same = refl }
+
+delay-at-requires : tie.Need-delay-at-requires Inv-loop μ-loop
+delay-at-requires c κs = search needs
+
+add-i : tie.Need-add-i Inv-loop μ-loop
+add-i c = search needs
+
+loop-less : tie.Need-loop-less Inv-loop μ-loop
+loop-less c = search needs
+
+loop-again : tie.Need-loop-again Inv-loop μ-loop
+loop-again c =
+    let e = c .before .before .before in
+    look-on _ _ _ _ _ (e .before .before .loop .inv) (e .delay-at .result) (here e) (e .before .if1 .left) (omega (arith, c .if2 .left))
+
+returns : tie.Need-returns Inv-loop μ-loop
+returns c =
+    let told = c .before .before .before in
+    look-end _ _ _ _ _ (c .before .loop .inv) (first-count delayFrom _ 16 _ (size-of told) (told .before .pre .0)) (c .if1 .taken)
+
+returns-2 : tie.Need-returns-2 Inv-loop μ-loop
+returns-2 c =
+    let e = c .before .before .before in
+    look-here _ _ _ _ _ (e .before .before .loop .inv) (e .delay-at .result) (here e) (omega (arith, c .if2 .taken))
+
+pub delay-place-spec : {M : Type 1} → statement M
+delay-place-spec =
+    tie.close
+    (tie.spec
+    Inv-loop
+    μ-loop
+    told-requires
+    loop-holds
+    delay-at-requires
+    add-i
+    loop-less
+    loop-again
+    returns
+    returns-2)

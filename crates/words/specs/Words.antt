@@ -1,0 +1,24 @@
+-- Lists of segments as they lie in memory: three numbers to a segment, its start, its end and its volume or delay.
+use Prim.Native.Nat.{ℕ}
+use mathlib.Core.List.{List, [], _∷_}
+use Rattle.segmentation.specs.declared.VolumeSegment.{VolumeSegment}
+use Rattle.segmentation.specs.declared.DelaySegment.{DelaySegment}
+
+-- what the numbers, taken in threes, make
+unfoldable pub threes : {A : Type 0} → (ℕ → ℕ → ℕ → A) → List ℕ → List A
+threes make [] = []
+threes make (a ∷ []) = []
+threes make (a ∷ b ∷ []) = []
+threes make (a ∷ b ∷ c ∷ l) = make a b c ∷ threes make l
+
+abbrev pub volumeFrom : ℕ → ℕ → ℕ → VolumeSegment
+volumeFrom a b c = record { start = record { 0 = a }; end = record { 0 = b }; volume = record { 0 = c } }
+
+abbrev pub delayFrom : ℕ → ℕ → ℕ → DelaySegment
+delayFrom a b c = record { start = record { 0 = a }; end = record { 0 = b }; delay = record { 0 = c } }
+
+abbrev pub volumesIn : List ℕ → List VolumeSegment
+volumesIn l = threes volumeFrom l
+
+abbrev pub delaysIn : List ℕ → List DelaySegment
+delaysIn l = threes delayFrom l

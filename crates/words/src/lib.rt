@@ -1,0 +1,169 @@
+// Segments lent as numbers, three to a segment, and the rounding and lookup rules over them: no array is copied.
+use segmentation::DelaySegment;
+use segmentation::Delays;
+use segmentation::End;
+use segmentation::VolumeSegment;
+use units::Date;
+use units::Delay;
+use units::Interval;
+use units::Offer;
+use units::Volume;
+ghost use mathlib.Core.Path.{_≡_};
+ghost use Prim.Native.Nat.{_<_, _≤_, _^_};
+ghost use lib.ListN.{take, getD, set};
+ghost use Rattle.segmentation.specs.Capacity.{capacity};
+ghost use Rattle.segmentation.specs.End.{endOf};
+ghost use Rattle.segmentation.specs.Delay.{delaysOf, answerWith};
+ghost use Rattle.segmentation.specs.Granted.{Covers, Runs, AllShort, Placed};
+ghost use Rattle.contact.specs.Segments.{zeroVolume, zeroDelay};
+ghost use Rattle.words.specs.Words.{volumesIn, delaysIn};
+
+// Lent as a slice, an array tells its length; no code is left of it.
+fn told(words: &[u64]) {}
+
+// The rate segment at a place.
+pub fn rate_at(rates: &[u64; 48], i: usize) -> VolumeSegment
+    requires { ⌜ i < 16 ⌝ }
+    ensures { λ r. ⌜ r ≡ getD (volumesIn (now (rates .entry))) i zeroVolume ⌝ }
+{
+    told(rates);
+    let at = 3 * i;
+    VolumeSegment {
+        start: Date(rates[at]),
+        end: Date(rates[at + 1]),
+        volume: Volume(rates[at + 2]),
+    }
+}
+
+// The delay segment at a place.
+pub fn delay_at(delays: &[u64; 48], i: usize) -> DelaySegment
+    requires { ⌜ i < 16 ⌝ }
+    ensures { λ r. ⌜ r ≡ getD (delaysIn (now (delays .entry))) i zeroDelay ⌝ }
+{
+    told(delays);
+    let at = 3 * i;
+    DelaySegment {
+        start: Date(delays[at]),
+        end: Date(delays[at + 1]),
+        delay: Delay(delays[at + 2]),
+    }
+}
+
+// The listed segment at a place.
+pub fn listed_at(free: &[u64; 192], i: usize) -> VolumeSegment
+    requires { ⌜ i < 64 ⌝ }
+    ensures { λ r. ⌜ r ≡ getD (volumesIn (now (free .entry))) i zeroVolume ⌝ }
+{
+    told(free);
+    let at = 3 * i;
+    VolumeSegment {
+        start: Date(free[at]),
+        end: Date(free[at + 1]),
+        volume: Volume(free[at + 2]),
+    }
+}
+
+// Lists a segment at a place, over the one there.
+pub fn put_at(free: &mut [u64; 192], i: usize, s: VolumeSegment)
+    requires { ⌜ i < 64 ⌝ }
+    ensures { λ r. ⌜ volumesIn (now (free .exit)) ≡ set (volumesIn (now (free .entry))) i s ⌝ }
+{
+    told(free);
+    let at = 3 * i;
+    free[at] = s.start.0;
+    free[at + 1] = s.end.0;
+    free[at + 2] = s.volume.0;
+}
+
+// get_tx_end: the end of a send of this size from this start, by the deadline, or none.
+pub fn find_end(rates: &[u64; 48], count: usize, start: Date, size: Volume, deadline: Date) -> End
+    requires { ⌜ count ≤ 16 ⌝ ∗ ⌜ 0 < size .0 ⌝ ∗ ⌜ Covers (start .0) (take count (volumesIn (now rates))) ⌝ }
+    ensures { λ r. ⌜ r ≡ endOf (take count (volumesIn (now (rates .entry)))) (start .0) (size .0) (deadline .0) ⌝ }
+{
+    told(rates);
+    let mut i: usize = 0;
+    let mut at = start;
+    let mut rest = size;
+    loop {
+        if count <= i {
+            break End::None;
+        }
+        let s = rate_at(rates, i);
+        if at.0 <= s.end.0 {
+            let here = s.carried(at);
+            if rest.0 <= here.0 {
+                break segmentation::by_deadline(s.sent(at, rest), deadline);
+            }
+            rest = Volume(rest.0 - here.0);
+            at = s.end;
+        }
+        i += 1;
+    }
+}
+
+// get_volume: the exact capacity between two dates.
+pub fn volume_between(rates: &[u64; 48], count: usize, start: Date, end: Date) -> Volume
+    requires { ⌜ count ≤ 16 ⌝ ∗ ⌜ Runs (take count (volumesIn (now rates))) ⌝ }
+    ensures { λ r. ⌜ r .0 ≡ capacity (take count (volumesIn (now (rates .entry)))) (start .0) (end .0) ⌝ }
+{
+    told(rates);
+    let mut i: usize = 0;
+    let mut sum = Volume(0);
+    loop {
+        if count <= i {
+            break sum;
+        }
+        let s = rate_at(rates, i);
+        let more = s.part(start, end);
+        sum = Volume(sum.0 + more.0);
+        i += 1;
+    }
+}
+
+// The place of the first delay segment, from a place on, whose end is not before the date; the count, where there is none.
+pub fn delay_place(delays: &[u64; 48], count: usize, from: usize, date: Date) -> usize
+    requires { ⌜ count ≤ 16 ⌝ ∗ ⌜ from ≤ count ⌝ }
+    ensures { λ r. ⌜ Placed (take count (delaysIn (now (delays .entry)))) count from (date .0) r ⌝ }
+{
+    told(delays);
+    let mut i = from;
+    loop {
+        if count <= i {
+            break count;
+        }
+        let s = delay_at(delays, i);
+        if date.0 <= s.end.0 {
+            break i;
+        }
+        i += 1;
+    }
+}
+
+// get_delays: the delays at both ends of a send interval; the end's lookup goes on from the start's.
+pub fn find_delays(delays: &[u64; 48], count: usize, send: Interval) -> Delays
+    requires { ⌜ count ≤ 16 ⌝ }
+    ensures { λ r. ⌜ r ≡ delaysOf (take count (delaysIn (now (delays .entry)))) (send .start .0) (send .end .0) ⌝ }
+{
+    told(delays);
+    let start = send.start;
+    let end = send.end;
+    let i = delay_place(delays, count, 0, start);
+    let j = delay_place(delays, count, i, end);
+    if count <= j {
+        return Delays::None;
+    }
+    let a = delay_at(delays, i);
+    let b = delay_at(delays, j);
+    let first = a.delay;
+    let last = b.delay;
+    Delays::Of(first, last)
+}
+
+// The answer to a dry run that found this send interval.
+pub fn answer_at(delays: &[u64; 48], count: usize, send: Interval) -> Offer
+    requires { ⌜ count ≤ 16 ⌝ ∗ ⌜ AllShort (take count (delaysIn (now delays))) ⌝ ∗ ⌜ (send .start .0 ≤ 2 ^ 40) × (send .end .0 ≤ 2 ^ 40) ⌝ }
+    ensures { λ r. ⌜ r ≡ answerWith (take count (delaysIn (now (delays .entry)))) send ⌝ }
+{
+    let found = find_delays(delays, count, send);
+    segmentation::answer(send, found)
+}
