@@ -1,9 +1,11 @@
 //! The library's functions, and the manager type over them. All `unsafe` of
 //! this package is in this file.
 //!
-//! Each function has two doors. The total one tests its record and is safe
-//! with any record. The kept one tests nothing: it may be called only with a
-//! record that keeps its rules, and [`Manager`] holds no other.
+//! Each call has two doors. The total one takes a whole record, tests it, and
+//! is safe with any record. The kept one tests nothing: it may be called only
+//! with a record that keeps its rules, and [`Manager`] holds no other. For the
+//! managers with lists it takes the record's parts, the lists as arrays of
+//! numbers, so that nothing is copied.
 
 use std::mem::MaybeUninit;
 
@@ -12,7 +14,7 @@ use crate::record::{
     Queue, QueueOpening,
 };
 use crate::refusal::Refusal;
-use crate::segments::{Bundle, Offer};
+use crate::segments::{BookingSegment, Bundle, DelaySegment, Interval, Offer, VolumeSegment};
 
 /// How the library answers: document 01's number, and what goes with a 0.
 #[repr(C)]
@@ -21,23 +23,19 @@ pub struct Answer<T> {
     value: T,
 }
 
-impl<T> Answer<T> {
-    fn result(self) -> Result<T, Refusal> {
+impl<T: Copy> Answer<T> {
+    fn result(&self) -> Result<T, Refusal> {
         Refusal::unless_done(self.number).map(|()| self.value)
     }
 }
 
-mod sealed {
-    pub trait Sealed {}
-}
-
 /// A manager's record as plain data, and the total calls on it: they test the
 /// record and refuse a damaged one with 1.
-pub trait Record: Copy + PartialEq + sealed::Sealed {
+pub trait Record: Copy + PartialEq + Kept {
     /// What it is opened with.
     type Opening;
     /// What it lists.
-    type List;
+    type List: Copy;
 
     /// The record that these figures open.
     fn opened(opening: &Self::Opening) -> Result<Self, Refusal>;
@@ -54,26 +52,25 @@ pub trait Record: Copy + PartialEq + sealed::Sealed {
     /// Books what a dry run at this time offers. A refusal leaves the record as
     /// it came.
     fn book(&mut self, at: u64, bundle: Bundle, offer: Offer) -> Result<(), Refusal>;
+}
 
-    /// [`Record::dry_run`] without the test.
-    ///
+/// The kept calls.
+pub trait Kept {
     /// # Safety
     /// The record keeps its rules: [`Record::is_kept`] is true.
     unsafe fn dry_run_kept(&self, at: u64, bundle: Bundle) -> Result<Offer, Refusal>;
 
-    /// [`Record::book`] without the test.
-    ///
     /// # Safety
     /// The record keeps its rules: [`Record::is_kept`] is true.
     unsafe fn book_kept(&mut self, at: u64, bundle: Bundle, offer: Offer) -> Result<(), Refusal>;
 }
 
 /// Lets a function of the library write its answer.
-fn answered<T>(call: impl FnOnce(*mut Answer<T>)) -> Result<T, Refusal> {
+fn answered<T: Copy>(call: impl FnOnce(*mut Answer<T>)) -> Result<T, Refusal> {
     let mut answer = MaybeUninit::uninit();
     call(answer.as_mut_ptr());
     // SAFETY: the functions below write the whole answer before they return.
-    unsafe { answer.assume_init() }.result()
+    unsafe { answer.assume_init_ref() }.result()
 }
 
 // A function that answers with a record of more than 16 bytes takes the place
@@ -82,7 +79,7 @@ fn answered<T>(call: impl FnOnce(*mut Answer<T>)) -> Result<T, Refusal> {
 // processor that the library is compiled for.
 macro_rules! record {
     ($record:ident, $opening:ident, $list:ident: $open:ident, $ok:ident, $listed:ident,
-     $dry_run:ident, $dry_run_kept:ident, $book:ident, $book_kept:ident) => {
+     $dry_run:ident, $book:ident) => {
         unsafe extern "C" {
             fn $open(out: *mut Answer<$record>, x: *const $opening) -> *mut Answer<$record>;
             fn $ok(m: *const $record) -> u8;
@@ -93,17 +90,8 @@ macro_rules! record {
                 at: u64,
                 bundle: Bundle,
             ) -> *mut Answer<Offer>;
-            fn $dry_run_kept(
-                out: *mut Answer<Offer>,
-                m: *const $record,
-                at: u64,
-                bundle: Bundle,
-            ) -> *mut Answer<Offer>;
             fn $book(m: *mut $record, at: u64, bundle: Bundle, offer: *const Offer) -> u8;
-            fn $book_kept(m: *mut $record, at: u64, bundle: Bundle, offer: *const Offer) -> u8;
         }
-
-        impl sealed::Sealed for $record {}
 
         // SAFETY, for the total calls: the pointers are of references, or of
         // the answer's place, and the functions ask nothing else.
@@ -141,12 +129,85 @@ macro_rules! record {
                 // SAFETY: see above.
                 Refusal::unless_done(unsafe { $book(self, at, bundle, &offer) })
             }
+        }
+    };
+}
 
+record!(FreeVolume, Opening, FreeList: hk_free_open, hk_free_ok, hk_free_list, hk_free_dry_run,
+    hk_free_book);
+record!(PrioritySeg, Opening, Bookings: hk_priority_open, hk_priority_ok, hk_priority_list,
+    hk_priority_dry_run, hk_priority_book);
+record!(PolySeg, PolynomialOpening, FreeList: hk_polynomial_open, hk_polynomial_ok,
+    hk_polynomial_list, hk_polynomial_dry_run, hk_polynomial_book);
+record!(Queue, QueueOpening, Classes: hk_queue_open, hk_queue_ok, hk_queue_list,
+    hk_queue_dry_run, hk_queue_book);
+
+/// A segment is three numbers of 64 bits.
+const WORDS: usize = 24;
+
+// SAFETY of the casts below: a list's places are 16 or 64 segments of three
+// numbers each, with nothing between them, and so are 48 or 192 numbers.
+const _: () = assert!(size_of::<VolumeSegment>() == WORDS);
+const _: () = assert!(size_of::<DelaySegment>() == WORDS);
+const _: () = assert!(size_of::<BookingSegment>() == WORDS);
+const _: () = assert!(align_of::<BookingSegment>() == align_of::<u64>());
+
+fn words<T, const PLACES: usize>(places: &[T; PLACES]) -> *const u64 {
+    places.as_ptr().cast()
+}
+
+fn words_mut<T, const PLACES: usize>(places: &mut [T; PLACES]) -> *mut u64 {
+    places.as_mut_ptr().cast()
+}
+
+// A manager over rates, delays and one list.
+macro_rules! kept {
+    ($record:ident, $list:ident: $dry_run:ident, $book:ident) => {
+        unsafe extern "C" {
+            fn $dry_run(
+                out: *mut Answer<Offer>,
+                window: Interval,
+                rates: *const u64,
+                rate_count: usize,
+                delays: *const u64,
+                delay_count: usize,
+                list: *const u64,
+                count: usize,
+                at: u64,
+                bundle: Bundle,
+            ) -> *mut Answer<Offer>;
+            fn $book(
+                window: Interval,
+                rates: *const u64,
+                rate_count: usize,
+                delays: *const u64,
+                delay_count: usize,
+                list: *mut u64,
+                count: *mut usize,
+                at: u64,
+                bundle: Bundle,
+                offer: *const Offer,
+            ) -> u8;
+        }
+
+        impl Kept for $record {
             unsafe fn dry_run_kept(&self, at: u64, bundle: Bundle) -> Result<Offer, Refusal> {
-                // SAFETY: see above; that the record keeps its rules is asked
-                // of the caller.
+                let $record { contact, $list } = self;
+                // SAFETY: the pointers are of this record's lists, with all
+                // their places; that it keeps its rules is asked of the caller.
                 answered(|out| unsafe {
-                    $dry_run_kept(out, self, at, bundle);
+                    $dry_run(
+                        out,
+                        contact.window,
+                        words(&contact.rates),
+                        contact.rate_count,
+                        words(&contact.delays),
+                        contact.delay_count,
+                        words(&$list.segments),
+                        $list.count,
+                        at,
+                        bundle,
+                    );
                 })
             }
 
@@ -156,23 +217,117 @@ macro_rules! record {
                 bundle: Bundle,
                 offer: Offer,
             ) -> Result<(), Refusal> {
-                // SAFETY: see above; that the record keeps its rules is asked
-                // of the caller.
-                Refusal::unless_done(unsafe { $book_kept(self, at, bundle, &offer) })
+                let $record { contact, $list } = self;
+                // SAFETY: as for the dry run; the list and its count, which
+                // are changed, are borrowed for this call alone.
+                Refusal::unless_done(unsafe {
+                    $book(
+                        contact.window,
+                        words(&contact.rates),
+                        contact.rate_count,
+                        words(&contact.delays),
+                        contact.delay_count,
+                        words_mut(&mut $list.segments),
+                        &mut $list.count,
+                        at,
+                        bundle,
+                        &offer,
+                    )
+                })
             }
         }
     };
 }
 
-record!(FreeVolume, Opening, FreeList: hk_free_open, hk_free_ok, hk_free_list,
-    hk_free_dry_run, hk_free_dry_run_kept, hk_free_book, hk_free_book_kept);
-record!(PrioritySeg, Opening, Bookings: hk_priority_open, hk_priority_ok, hk_priority_list,
-    hk_priority_dry_run, hk_priority_dry_run_kept, hk_priority_book, hk_priority_book_kept);
-record!(PolySeg, PolynomialOpening, FreeList: hk_polynomial_open, hk_polynomial_ok,
-    hk_polynomial_list, hk_polynomial_dry_run, hk_polynomial_dry_run_kept, hk_polynomial_book,
-    hk_polynomial_book_kept);
-record!(Queue, QueueOpening, Classes: hk_queue_open, hk_queue_ok, hk_queue_list,
-    hk_queue_dry_run, hk_queue_dry_run_kept, hk_queue_book, hk_queue_book_kept);
+kept!(FreeVolume, free: hk_free_dry_run_kept, hk_free_book_kept);
+kept!(PrioritySeg, bookings: hk_priority_dry_run_kept, hk_priority_book_kept);
+
+unsafe extern "C" {
+    fn hk_polynomial_dry_run_kept(
+        out: *mut Answer<Offer>,
+        window: Interval,
+        coefficients: *const i64,
+        offset: u64,
+        delays: *const u64,
+        delay_count: usize,
+        free: *const u64,
+        count: usize,
+        at: u64,
+        bundle: Bundle,
+    ) -> *mut Answer<Offer>;
+    fn hk_polynomial_book_kept(
+        window: Interval,
+        coefficients: *const i64,
+        offset: u64,
+        delays: *const u64,
+        delay_count: usize,
+        free: *mut u64,
+        count: *mut usize,
+        at: u64,
+        bundle: Bundle,
+        offer: *const Offer,
+    ) -> u8;
+    fn hk_queue_dry_run_kept(
+        out: *mut Answer<Offer>,
+        m: *const Queue,
+        at: u64,
+        bundle: Bundle,
+    ) -> *mut Answer<Offer>;
+    fn hk_queue_book_kept(m: *mut Queue, at: u64, bundle: Bundle, offer: *const Offer) -> u8;
+}
+
+impl Kept for PolySeg {
+    unsafe fn dry_run_kept(&self, at: u64, bundle: Bundle) -> Result<Offer, Refusal> {
+        // SAFETY: as for the free-volume manager.
+        answered(|out| unsafe {
+            hk_polynomial_dry_run_kept(
+                out,
+                self.window,
+                self.polynome.coefficients.as_ptr(),
+                self.polynome.offset,
+                words(&self.delays),
+                self.delay_count,
+                words(&self.free.segments),
+                self.free.count,
+                at,
+                bundle,
+            );
+        })
+    }
+
+    unsafe fn book_kept(&mut self, at: u64, bundle: Bundle, offer: Offer) -> Result<(), Refusal> {
+        // SAFETY: as for the free-volume manager.
+        Refusal::unless_done(unsafe {
+            hk_polynomial_book_kept(
+                self.window,
+                self.polynome.coefficients.as_ptr(),
+                self.polynome.offset,
+                words(&self.delays),
+                self.delay_count,
+                words_mut(&mut self.free.segments),
+                &mut self.free.count,
+                at,
+                bundle,
+                &offer,
+            )
+        })
+    }
+}
+
+impl Kept for Queue {
+    unsafe fn dry_run_kept(&self, at: u64, bundle: Bundle) -> Result<Offer, Refusal> {
+        // SAFETY: the pointer is of a reference; that the record keeps its
+        // rules is asked of the caller.
+        answered(|out| unsafe {
+            hk_queue_dry_run_kept(out, self, at, bundle);
+        })
+    }
+
+    unsafe fn book_kept(&mut self, at: u64, bundle: Bundle, offer: Offer) -> Result<(), Refusal> {
+        // SAFETY: as for the dry run.
+        Refusal::unless_done(unsafe { hk_queue_book_kept(self, at, bundle, &offer) })
+    }
+}
 
 unsafe extern "C" {
     fn hk_queue_enqueue(m: *mut Queue, bundle: Bundle) -> u8;
@@ -219,6 +374,7 @@ impl<R: Record> Manager<R> {
     }
 
     /// When could the bundle be sent, asked at this time? Nothing is booked.
+    #[inline]
     pub fn dry_run(&self, at: u64, bundle: Bundle) -> Result<Offer, Refusal> {
         // SAFETY: the record of a manager keeps its rules.
         unsafe { self.0.dry_run_kept(at, bundle) }
@@ -227,6 +383,7 @@ impl<R: Record> Manager<R> {
     /// Books what a dry run at this time offers. Where the record has changed
     /// so that it offers something else, the booking is refused with
     /// [`Refusal::NOT_OFFERED`] and the record is as before.
+    #[inline]
     pub fn book(&mut self, at: u64, bundle: Bundle, offer: Offer) -> Result<(), Refusal> {
         // SAFETY: the record of a manager keeps its rules, and a booking
         // leaves one that does.

@@ -39,6 +39,7 @@ impl Refusal {
     pub const CLASSES: Refusal = Refusal(14);
 
     /// What a call's number says: 0 is done.
+    #[inline]
     pub(crate) fn unless_done(number: u8) -> Result<(), Refusal> {
         match number {
             0 => Ok(()),

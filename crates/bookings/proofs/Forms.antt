@@ -32,7 +32,7 @@ module _ (s e w : ℕ) (g : BookingSegment) where
   parts-late h k = rw (both-go (ltb s (g .end .0)) (ltb (g .start .0) e) (lt-ltb _ _ h), le-ltb _ _ k)
 
   module _ (h : s < g .end .0) (k : g .start .0 < e) where
-    parts-on : partsOf s e w g ≡ beforeOf s g ++ (sentOf s e w g ∷ afterOf e g)
+    pub parts-on : partsOf s e w g ≡ beforeOf s g ++ (sentOf s e w g ∷ afterOf e g)
     unfolding partsOf
     parts-on = rw (both-go (ltb s (g .end .0)) (ltb (g .start .0) e) (lt-ltb _ _ h), lt-ltb _ _ k)
 

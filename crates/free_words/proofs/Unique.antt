@@ -7,7 +7,8 @@ use contract.Lifetimes.{Lfts}
 use Rattle.units.proofs.Determined.{Determined}
 use Rattle.free_list.specs.declared.FreeList.{FreeList}
 use Rattle.words.specs.Words.{volumesIn}
-use Rattle.words.proofs.Unique.{Leaves, same-numbers}
+use Rattle.words.proofs.Numbers.{same-numbers}
+use Rattle.words.proofs.Unique.{Leaves}
 use Rattle.free_words.proofs.end_in.Kinds as end-in-kinds
 use Rattle.free_words.proofs.end_in.Reads as end-in-reads
 use Rattle.free_words.proofs.find_offer.Kinds as find-offer-kinds

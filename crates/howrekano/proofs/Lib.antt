@@ -7,4 +7,6 @@ pub mod Asks
 pub mod Stores
 pub mod Queues
 pub mod Types
+pub mod FreeDryRun
+pub mod PolynomialDryRun
 pub mod Unique

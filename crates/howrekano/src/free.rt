@@ -1,8 +1,11 @@
-// The free-volume manager from C or Rust: its record is lent, and no enum crosses. The calls whose names end in _kept test nothing: whoever holds the record keeps its rules.
+// The free-volume manager from C or Rust: its record is lent, and no enum crosses. The calls whose names end in _kept test nothing, since whoever holds the record keeps its rules, and have its lists lent as numbers.
+use free_list::Chosen;
+use free_list::Found;
 use layout::opening::Opening;
 use seg::FreeVolume;
 use units::Bundle;
 use units::Date;
+use units::Interval;
 use units::Offer;
 use units::TxData;
 ghost use mathlib.Core.Path.{_≡_};
@@ -12,6 +15,8 @@ ghost use Rattle.seg.specs.Record.{recordOk};
 ghost use Rattle.seg.specs.DryRun.{dryRunOf};
 ghost use Rattle.seg.specs.Book.{bookOf};
 ghost use Rattle.seg.specs.List.{listOf};
+ghost use Rattle.seg.specs.Granted.{chosenOf};
+ghost use Rattle.howrekano.specs.Words.{freeVolumeIn, datesIn};
 
 // The opening by value, with its figures in one record.
 pub fn opened(x: Opening) -> seg::Opened
@@ -55,14 +60,6 @@ pub extern "C" fn hk_free_dry_run(m: &FreeVolume, at: Date, bundle: Bundle) -> O
 }
 
 #[no_mangle]
-pub extern "C" fn hk_free_dry_run_kept(m: &FreeVolume, at: Date, bundle: Bundle) -> Offer
-    requires { ⌜ recordOk (now m) ≡ true ⌝ }
-    ensures { λ r. ⌜ r ≡ dryRunOf (now (m .entry)) at bundle ⌝ }
-{
-    (*m).dry_run_kept(at, bundle)
-}
-
-#[no_mangle]
 pub extern "C" fn hk_free_book(m: &mut FreeVolume, at: Date, bundle: Bundle, dates: &TxData) -> u8
     ensures { λ r. ⌜ (r ≡ bookOf (now (m .entry)) at bundle (now (dates .entry)) .number) × (now (m .exit) ≡ bookOf (now (m .entry)) at bundle (now (dates .entry)) .manager) ⌝ }
 {
@@ -71,17 +68,112 @@ pub extern "C" fn hk_free_book(m: &mut FreeVolume, at: Date, bundle: Bundle, dat
     done.number
 }
 
-#[no_mangle]
-pub extern "C" fn hk_free_book_kept(
-    m: &mut FreeVolume,
+// What a dry run finds on the record that these numbers make.
+fn chosen(
+    window: Interval,
+    rates: &[u64; 48],
+    rate_count: usize,
+    delays: &[u64; 48],
+    delay_count: usize,
+    free: &[u64; 192],
+    count: usize,
     at: Date,
     bundle: Bundle,
-    dates: &TxData,
-) -> u8
-    requires { ⌜ recordOk (now m) ≡ true ⌝ }
-    ensures { λ r. ⌜ (r ≡ bookOf (now (m .entry)) at bundle (now (dates .entry)) .number) × (now (m .exit) ≡ bookOf (now (m .entry)) at bundle (now (dates .entry)) .manager) ⌝ }
+) -> Chosen
+    requires { ⌜ recordOk (freeVolumeIn window (now rates) «rate_count» (now delays) «delay_count» (now free) count) ≡ true ⌝ }
+    ensures { λ r. ⌜ r ≡ chosenOf (freeVolumeIn window (now (rates .entry)) «rate_count» (now (delays .entry)) «delay_count» (now (free .entry)) count) at bundle ⌝ }
 {
-    let done = (*m).book_kept(at, bundle, *dates);
-    *m = done.manager;
-    done.number
+    if !bundle.ok_at(at) {
+        return Chosen::refused(units::refusal::BUNDLE);
+    }
+    let size = bundle.size;
+    let Found::At { place, send } = free_words::find_offer(
+        rates,
+        rate_count,
+        free,
+        count,
+        window,
+        at,
+        size,
+    ) else {
+        return Chosen::refused(units::refusal::NO_OFFER);
+    };
+    let offer = words::answer_at(delays, delay_count, send);
+    Chosen {
+        offer: offer,
+        place: place,
+    }
+}
+
+#[no_mangle]
+pub extern "C" fn hk_free_dry_run_kept(
+    window: Interval,
+    rates: &[u64; 48],
+    rate_count: usize,
+    delays: &[u64; 48],
+    delay_count: usize,
+    free: &[u64; 192],
+    count: usize,
+    at: Date,
+    bundle: Bundle,
+) -> Offer
+    requires { ⌜ recordOk (freeVolumeIn window (now rates) «rate_count» (now delays) «delay_count» (now free) count) ≡ true ⌝ }
+    ensures { λ r. ⌜ r ≡ dryRunOf (freeVolumeIn window (now (rates .entry)) «rate_count» (now (delays .entry)) «delay_count» (now (free .entry)) count) at bundle ⌝ }
+{
+    if !bundle.ok_at(at) {
+        return Offer::refused(units::refusal::BUNDLE);
+    }
+    let size = bundle.size;
+    let Found::At { place: _, send } = free_words::find_offer(
+        rates,
+        rate_count,
+        free,
+        count,
+        window,
+        at,
+        size,
+    ) else {
+        return Offer::refused(units::refusal::NO_OFFER);
+    };
+    words::answer_at(delays, delay_count, send)
+}
+
+#[no_mangle]
+pub extern "C" fn hk_free_book_kept(
+    window: Interval,
+    rates: &[u64; 48],
+    rate_count: usize,
+    delays: &[u64; 48],
+    delay_count: usize,
+    free: &mut [u64; 192],
+    count: &mut usize,
+    at: Date,
+    bundle: Bundle,
+    dates: &[u64; 4],
+) -> u8
+    requires { ⌜ recordOk (freeVolumeIn window (now rates) «rate_count» (now delays) «delay_count» (now free) (now count)) ≡ true ⌝ }
+    ensures { λ r. ⌜ r ≡ bookOf (freeVolumeIn window (now (rates .entry)) «rate_count» (now (delays .entry)) «delay_count» (now (free .entry)) (now (count .entry))) at bundle (datesIn (now (dates .entry))) .number ⌝ ∗ ⌜ freeVolumeIn window (now (rates .entry)) «rate_count» (now (delays .entry)) «delay_count» (now (free .exit)) (now (count .exit)) ≡ bookOf (freeVolumeIn window (now (rates .entry)) «rate_count» (now (delays .entry)) «delay_count» (now (free .entry)) (now (count .entry))) at bundle (datesIn (now (dates .entry))) .manager ⌝ }
+{
+    let n = *count;
+    let stated = crate::dates_at(dates);
+    let c = chosen(
+        window,
+        rates,
+        rate_count,
+        delays,
+        delay_count,
+        free,
+        n,
+        at,
+        bundle,
+    );
+    let offer = c.offer;
+    let place = c.place;
+    let number = offer.refusal(stated);
+    if number != 0 {
+        return number;
+    }
+    let send = stated.send;
+    let size = bundle.size;
+    free_words::cut(rates, rate_count, free, count, place, send, size)
 }

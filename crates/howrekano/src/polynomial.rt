@@ -1,10 +1,15 @@
-// The polynomial manager from C or Rust: its record is lent, and no enum crosses. The calls whose names end in _kept test nothing: whoever holds the record keeps its rules.
+// The polynomial manager from C or Rust: its record is lent, and no enum crosses. The calls whose names end in _kept test nothing, since whoever holds the record keeps its rules, and have its lists lent as numbers.
+use free_list::Chosen;
+use free_list::Found;
 use layout::polynomial::PolynomialOpening;
+use poly::Polynome;
 use poly_seg::PolySeg;
 use units::Bundle;
 use units::Date;
+use units::Interval;
 use units::Offer;
 use units::TxData;
+use units::Volume;
 ghost use mathlib.Core.Path.{_≡_};
 ghost use mathlib.Core.Bool.{true};
 ghost use Rattle.poly_seg.specs.Open.{openOf};
@@ -12,6 +17,8 @@ ghost use Rattle.poly_seg.specs.Record.{recordOk};
 ghost use Rattle.poly_seg.specs.DryRun.{dryRunOf};
 ghost use Rattle.poly_seg.specs.Book.{bookOf};
 ghost use Rattle.poly_seg.specs.List.{listOf};
+ghost use Rattle.poly_seg.specs.Granted.{chosenOf};
+ghost use Rattle.howrekano.specs.Words.{polynomeIn, polySegIn, datesIn};
 
 // The opening by value, with its figures in one record.
 pub fn opened(x: PolynomialOpening) -> poly_seg::Opened
@@ -54,14 +61,6 @@ pub extern "C" fn hk_polynomial_dry_run(m: &PolySeg, at: Date, bundle: Bundle) -
 }
 
 #[no_mangle]
-pub extern "C" fn hk_polynomial_dry_run_kept(m: &PolySeg, at: Date, bundle: Bundle) -> Offer
-    requires { ⌜ recordOk (now m) ≡ true ⌝ }
-    ensures { λ r. ⌜ r ≡ dryRunOf (now (m .entry)) at bundle ⌝ }
-{
-    (*m).dry_run_kept(at, bundle)
-}
-
-#[no_mangle]
 pub extern "C" fn hk_polynomial_book(
     m: &mut PolySeg,
     at: Date,
@@ -75,17 +74,105 @@ pub extern "C" fn hk_polynomial_book(
     done.number
 }
 
-#[no_mangle]
-pub extern "C" fn hk_polynomial_book_kept(
-    m: &mut PolySeg,
+// The polynomial of these numbers.
+fn polynome_at(coefficients: &[i64; 4], offset: Date) -> Polynome
+    ensures { λ r. ⌜ r ≡ polynomeIn (now (coefficients .entry)) offset ⌝ }
+{
+    Polynome {
+        coefficients: *coefficients,
+        offset: offset,
+    }
+}
+
+// What a dry run finds on the record that these numbers make.
+fn chosen(
+    window: Interval,
+    polynome: Polynome,
+    delays: &[u64; 48],
+    delay_count: usize,
+    free: &[u64; 192],
+    count: usize,
     at: Date,
     bundle: Bundle,
-    dates: &TxData,
-) -> u8
-    requires { ⌜ recordOk (now m) ≡ true ⌝ }
-    ensures { λ r. ⌜ (r ≡ bookOf (now (m .entry)) at bundle (now (dates .entry)) .number) × (now (m .exit) ≡ bookOf (now (m .entry)) at bundle (now (dates .entry)) .manager) ⌝ }
+) -> Chosen
+    requires { ⌜ recordOk (polySegIn window polynome (now delays) «delay_count» (now free) count) ≡ true ⌝ }
+    ensures { λ r. ⌜ r ≡ chosenOf (polySegIn window polynome (now (delays .entry)) «delay_count» (now (free .entry)) count) at bundle ⌝ }
 {
-    let done = (*m).book_kept(at, bundle, *dates);
-    *m = done.manager;
-    done.number
+    if !bundle.ok_at(at) {
+        return Chosen::refused(units::refusal::BUNDLE);
+    }
+    let size = bundle.size;
+    let Found::At { place, send } = poly_words::find_offer(window, polynome, free, count, at, size)
+    else {
+        return Chosen::refused(units::refusal::NO_OFFER);
+    };
+    let offer = words::answer_at(delays, delay_count, send);
+    Chosen {
+        offer: offer,
+        place: place,
+    }
+}
+
+#[no_mangle]
+pub extern "C" fn hk_polynomial_dry_run_kept(
+    window: Interval,
+    coefficients: &[i64; 4],
+    offset: Date,
+    delays: &[u64; 48],
+    delay_count: usize,
+    free: &[u64; 192],
+    count: usize,
+    at: Date,
+    bundle: Bundle,
+) -> Offer
+    requires { ⌜ recordOk (polySegIn window (polynomeIn (now coefficients) offset) (now delays) «delay_count» (now free) count) ≡ true ⌝ }
+    ensures { λ r. ⌜ r ≡ dryRunOf (polySegIn window (polynomeIn (now (coefficients .entry)) offset) (now (delays .entry)) «delay_count» (now (free .entry)) count) at bundle ⌝ }
+{
+    let polynome = polynome_at(coefficients, offset);
+    if !bundle.ok_at(at) {
+        return Offer::refused(units::refusal::BUNDLE);
+    }
+    let size = bundle.size;
+    let Found::At { place: _, send } = poly_words::find_offer(
+        window,
+        polynome,
+        free,
+        count,
+        at,
+        size,
+    ) else {
+        return Offer::refused(units::refusal::NO_OFFER);
+    };
+    words::answer_at(delays, delay_count, send)
+}
+
+// The list is cut where it stands. There are no rates: none of the numbers lent in their place is read.
+#[no_mangle]
+pub extern "C" fn hk_polynomial_book_kept(
+    window: Interval,
+    coefficients: &[i64; 4],
+    offset: Date,
+    delays: &[u64; 48],
+    delay_count: usize,
+    free: &mut [u64; 192],
+    count: &mut usize,
+    at: Date,
+    bundle: Bundle,
+    dates: &[u64; 4],
+) -> u8
+    requires { ⌜ recordOk (polySegIn window (polynomeIn (now coefficients) offset) (now delays) «delay_count» (now free) (now count)) ≡ true ⌝ }
+    ensures { λ r. ⌜ r ≡ bookOf (polySegIn window (polynomeIn (now (coefficients .entry)) offset) (now (delays .entry)) «delay_count» (now (free .entry)) (now (count .entry))) at bundle (datesIn (now (dates .entry))) .number ⌝ ∗ ⌜ polySegIn window (polynomeIn (now (coefficients .entry)) offset) (now (delays .entry)) «delay_count» (now (free .exit)) (now (count .exit)) ≡ bookOf (polySegIn window (polynomeIn (now (coefficients .entry)) offset) (now (delays .entry)) «delay_count» (now (free .entry)) (now (count .entry))) at bundle (datesIn (now (dates .entry))) .manager ⌝ }
+{
+    let n = *count;
+    let stated = crate::dates_at(dates);
+    let polynome = polynome_at(coefficients, offset);
+    let c = chosen(window, polynome, delays, delay_count, free, n, at, bundle);
+    let offer = c.offer;
+    let place = c.place;
+    let number = offer.refusal(stated);
+    if number != 0 {
+        return number;
+    }
+    let send = stated.send;
+    free_words::cut(delays, 0, free, count, place, send, Volume(0))
 }

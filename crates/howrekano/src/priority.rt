@@ -1,8 +1,11 @@
-// The priority manager from C or Rust: its record is lent, and no enum crosses. The calls whose names end in _kept test nothing: whoever holds the record keeps its rules.
+// The priority manager from C or Rust: its record is lent, and no enum crosses. The calls whose names end in _kept test nothing, since whoever holds the record keeps its rules, and have its lists lent as numbers.
+use bookings::Level;
+use bookings::Run;
 use layout::opening::Opening;
 use pseg::PrioritySeg;
 use units::Bundle;
 use units::Date;
+use units::Interval;
 use units::Offer;
 use units::TxData;
 ghost use mathlib.Core.Path.{_≡_};
@@ -12,6 +15,7 @@ ghost use Rattle.pseg.specs.Record.{recordOk};
 ghost use Rattle.pseg.specs.DryRun.{dryRunOf};
 ghost use Rattle.pseg.specs.Book.{bookOf};
 ghost use Rattle.pseg.specs.List.{listOf};
+ghost use Rattle.howrekano.specs.Words.{prioritySegIn, datesIn};
 
 // The opening by value, with its figures in one record.
 pub fn opened(x: Opening) -> pseg::Opened
@@ -55,14 +59,6 @@ pub extern "C" fn hk_priority_dry_run(m: &PrioritySeg, at: Date, bundle: Bundle)
 }
 
 #[no_mangle]
-pub extern "C" fn hk_priority_dry_run_kept(m: &PrioritySeg, at: Date, bundle: Bundle) -> Offer
-    requires { ⌜ recordOk (now m) ≡ true ⌝ }
-    ensures { λ r. ⌜ r ≡ dryRunOf (now (m .entry)) at bundle ⌝ }
-{
-    (*m).dry_run_kept(at, bundle)
-}
-
-#[no_mangle]
 pub extern "C" fn hk_priority_book(
     m: &mut PrioritySeg,
     at: Date,
@@ -77,16 +73,75 @@ pub extern "C" fn hk_priority_book(
 }
 
 #[no_mangle]
-pub extern "C" fn hk_priority_book_kept(
-    m: &mut PrioritySeg,
+pub extern "C" fn hk_priority_dry_run_kept(
+    window: Interval,
+    rates: &[u64; 48],
+    rate_count: usize,
+    delays: &[u64; 48],
+    delay_count: usize,
+    bookings: &[u64; 192],
+    count: usize,
     at: Date,
     bundle: Bundle,
-    dates: &TxData,
-) -> u8
-    requires { ⌜ recordOk (now m) ≡ true ⌝ }
-    ensures { λ r. ⌜ (r ≡ bookOf (now (m .entry)) at bundle (now (dates .entry)) .number) × (now (m .exit) ≡ bookOf (now (m .entry)) at bundle (now (dates .entry)) .manager) ⌝ }
+) -> Offer
+    requires { ⌜ recordOk (prioritySegIn window (now rates) «rate_count» (now delays) «delay_count» (now bookings) count) ≡ true ⌝ }
+    ensures { λ r. ⌜ r ≡ dryRunOf (prioritySegIn window (now (rates .entry)) «rate_count» (now (delays .entry)) «delay_count» (now (bookings .entry)) count) at bundle ⌝ }
 {
-    let done = (*m).book_kept(at, bundle, *dates);
-    *m = done.manager;
-    done.number
+    if !bundle.ok_at(at) {
+        return Offer::refused(units::refusal::BUNDLE);
+    }
+    let size = bundle.size;
+    let priority = bundle.priority;
+    let Run::Sent(send) = booking_words::find_run(
+        rates,
+        rate_count,
+        window,
+        bookings,
+        count,
+        at,
+        size,
+        priority,
+    ) else {
+        return Offer::refused(units::refusal::NO_OFFER);
+    };
+    words::answer_at(delays, delay_count, send)
+}
+
+// The booking is set where the list stands.
+#[no_mangle]
+pub extern "C" fn hk_priority_book_kept(
+    window: Interval,
+    rates: &[u64; 48],
+    rate_count: usize,
+    delays: &[u64; 48],
+    delay_count: usize,
+    bookings: &mut [u64; 192],
+    count: &mut usize,
+    at: Date,
+    bundle: Bundle,
+    dates: &[u64; 4],
+) -> u8
+    requires { ⌜ recordOk (prioritySegIn window (now rates) «rate_count» (now delays) «delay_count» (now bookings) (now count)) ≡ true ⌝ }
+    ensures { λ r. ⌜ r ≡ bookOf (prioritySegIn window (now (rates .entry)) «rate_count» (now (delays .entry)) «delay_count» (now (bookings .entry)) (now (count .entry))) at bundle (datesIn (now (dates .entry))) .number ⌝ ∗ ⌜ prioritySegIn window (now (rates .entry)) «rate_count» (now (delays .entry)) «delay_count» (now (bookings .exit)) (now (count .exit)) ≡ bookOf (prioritySegIn window (now (rates .entry)) «rate_count» (now (delays .entry)) «delay_count» (now (bookings .entry)) (now (count .entry))) at bundle (datesIn (now (dates .entry))) .manager ⌝ }
+{
+    let n = *count;
+    let stated = crate::dates_at(dates);
+    let offer = hk_priority_dry_run_kept(
+        window,
+        rates,
+        rate_count,
+        delays,
+        delay_count,
+        bookings,
+        n,
+        at,
+        bundle,
+    );
+    let number = offer.refusal(stated);
+    if number != 0 {
+        return number;
+    }
+    let send = stated.send;
+    let priority = bundle.priority;
+    booking_words::set::set(bookings, count, send, Level::of(priority))
 }

@@ -1,2 +1,3 @@
 pub mod Threes
+pub mod Numbers
 pub mod Unique

@@ -1,7 +1,7 @@
 -- Each public call's promise determines its answer, and all the numbers that a write leaves. `Post` is the reading of the contract in src/.
-use Prim.Native.Nat.{ℕ, zero, suc, _*_, _≤_}
-use mathlib.Core.Path.{_≡_, refl, sym, ap, _∙_}
-use mathlib.Core.List.{List, [], _∷_}
+use Prim.Native.Nat.{ℕ, _≤_}
+use mathlib.Core.Path.{_≡_, sym, ap, _∙_}
+use mathlib.Core.List.{List}
 use native.Mathlib.Omega.{arith}
 use lib.ListN.{length}
 use borrow.Fn.Kinds.{Dens, endedOf}
@@ -9,10 +9,10 @@ use denote.Triple.Clauses.{AtExit}
 use contract.Lifetimes.{Lfts}
 use Rattle.units.proofs.Determined.{Determined}
 use Rattle.units.proofs.Unique.{volume-is}
-use Rattle.segmentation.specs.declared.VolumeSegment.{VolumeSegment}
 use Rattle.segmentation.proofs.Unique as segmentation-unique
-use Rattle.words.specs.Words.{threes, volumesIn, delayFrom, delaysIn}
+use Rattle.words.specs.Words.{volumesIn, delayFrom, delaysIn}
 use Rattle.words.proofs.Threes.{threes-length}
+use Rattle.words.proofs.Numbers.{same-numbers}
 use Rattle.words.proofs.rate_at.Kinds as rate-at-kinds
 use Rattle.words.proofs.rate_at.Reads as rate-at-reads
 use Rattle.words.proofs.delay_at.Kinds as delay-at-kinds
@@ -31,23 +31,6 @@ use Rattle.words.proofs.find_delays.Kinds as find-delays-kinds
 use Rattle.words.proofs.find_delays.Reads as find-delays-reads
 use Rattle.words.proofs.answer_at.Kinds as answer-at-kinds
 use Rattle.words.proofs.answer_at.Reads as answer-at-reads
-
--- the numbers of the segments: those that they were made of
-abbrev numbers : List VolumeSegment → List ℕ
-numbers [] = []
-numbers (s ∷ l) = s .start .0 ∷ s .end .0 ∷ s .volume .0 ∷ numbers l
-
-numbers-back : (l : List ℕ) (n : ℕ) → length l ≡ 3 * n → l ≡ numbers (volumesIn l)
-unfolding threes
-numbers-back [] n h = refl
-numbers-back (a ∷ []) n h = absurd (omega arith)
-numbers-back (a ∷ b ∷ []) n h = absurd (omega arith)
-numbers-back (a ∷ b ∷ c ∷ l) zero h = absurd (omega arith)
-numbers-back (a ∷ b ∷ c ∷ l) (suc n) h = ap (λ (k : List ℕ). a ∷ b ∷ c ∷ k) (numbers-back l n (omega arith))
-
--- as many numbers that make the same segments are the same
-pub same-numbers : (l k : List ℕ) (n : ℕ) → length l ≡ 3 * n → length k ≡ 3 * n → volumesIn l ≡ volumesIn k → l ≡ k
-same-numbers l k n h j e = numbers-back l n h ∙ ap numbers e ∙ sym (numbers-back k n j)
 
 -- the numbers are what stands behind the reference at the end, as many as the array has
 abbrev pub Leaves : {X : Type 0} → (X → List ℕ) → (X → Type 0) → List ℕ → X → Type 0

@@ -1,18 +1,71 @@
--- `howrekano::free::hk_free_book_kept` meets its contract: the record that `FreeVolume::book_kept` answers is stored and its number returned.
-use mathlib.Core.Path.{_≡_}
-use mathlib.Core.Bool.{true}
-use Rattle.seg.specs.Record.{recordOk}
-use Rattle.seg.specs.Book.{bookOf}
-use Rattle.seg.proofs.FreeVolume.book_kept.Symbol as callee
-use Rattle.seg.proofs.FreeVolume.book_kept.Met as callee-thm
-use Rattle.howrekano.proofs.free.hk_free_book_kept.Key as self
-use Rattle.howrekano.proofs.free.hk_free_book_kept.Statement as stated
-use Rattle.howrekano.proofs.free.hk_free_book_kept.Code as code
-use Rattle.howrekano.proofs.Thin.{kept}
-use Rattle.howrekano.proofs.Types.{free-volume, date, bundle, dates, free-booked}
-use Rattle.howrekano.proofs.Stores.{stores}
+-- `howrekano::free::hk_free_book_kept` meets its contract: what is chosen tells the refusal, and where to cut the list that is lent.
+use borrow.Author.Needs.{needs}
+use mathlib.Core.Path.{_≡_, refl, sym, ap, _∙_}
+use Rattle.units.specs.Granted.{refusalOf}
+use Rattle.free_list.specs.declared.FreeList.{FreeList}
+use Rattle.seg.specs.declared.FreeVolume.{FreeVolume}
+use Rattle.seg.specs.Granted.{chosenOf}
+use Rattle.seg.proofs.Facts.{facts}
+use Rattle.seg.proofs.Calls.{chosen-refused, chosen-done}
+use Rattle.howrekano.specs.Words.{freeVolumeIn, datesIn}
+use Rattle.howrekano.proofs.free.hk_free_book_kept.Statement.{statement}
+use Rattle.howrekano.proofs.free.hk_free_book_kept.Tie as tie
 
-pub hk-free-book-kept-spec : {M : Type 1} → stated.statement M
-unfolding code.routine
-hk-free-book-kept-spec 𝓤 H 𝓜 𝓖 𝓡 =
-    stores free-volume date bundle dates free-booked bookOf 𝓤 (kept 𝓤 (λ m. recordOk m ≡ true)) H 𝓜 𝓖 𝓡 self.name code.env callee.name (code.unfolded 𝓤 H 𝓜 𝓡) callee.routine code.calls-seg·FreeVolume·book-kept (callee-thm.met 𝓤 H 𝓜 𝓖 𝓡)
+-- the record that is lent
+abbrev lent : tie.Start → FreeVolume
+lent c =
+    let a = c .args in
+    freeVolumeIn (a .window) (a .rates .now) (a .rate-count) (a .delays .now) (a .delay-count) (a .free .now) (a .count .now)
+
+-- where the call starts, from where the refusal is told
+abbrev start : tie.After-refusal → tie.Start
+start c = c .before .before .before .before .before .before
+
+refusal-is : (c : tie.After-refusal) →
+    let s = start c in
+    c .refusal .result ≡ refusalOf (chosenOf (lent s) (s .args .at) (s .args .bundle) .offer) (datesIn (s .args .dates .now))
+refusal-is c =
+    let k = c .before .before in
+    rw (k .chosen .ensures, k .before .before .dates-at .ensures) at (c .refusal .ensures)
+
+dates-at-requires : tie.Need-dates-at-requires
+dates-at-requires c κs = search needs
+
+chosen-requires : tie.Need-chosen-requires
+chosen-requires c κs = search needs
+
+refusal-requires : tie.Need-refusal-requires
+refusal-requires c κs = search needs
+
+returns : tie.Need-returns
+returns c =
+    let e = c .before in
+    rw (chosen-refused _ _ _ (start e .pre) _ (λ z. c .if1 .taken (refusal-is e ∙ z))) (refusal-is e, refl)
+
+cut-requires : tie.Need-cut-requires
+cut-requires c κs =
+    let one = c .before .before .before .before in
+    let e = one .before in
+    let ok = start e .pre in
+    let q = facts _ ok in (
+      q .contact .rates .1,
+      (
+        record { from = _; run = q .contact .run },
+        rw (e .before .before .chosen .ensures) (chosen-done _ _ _ ok _ (sym (refusal-is e) ∙ one .if1 .left) .1),
+      ),
+    )
+
+returns-2 : tie.Need-returns-2
+returns-2 c =
+    let one = c .before .before .before .before .before in
+    let e = one .before in
+    let k = e .before .before in
+    let s = start e in
+    let done = rw (k .chosen .ensures, k .before .before .dates-at .ensures) at (c .cut .ensures) in
+    rw (chosen-done _ _ _ (s .pre) _ (sym (refusal-is e) ∙ one .if1 .left) .0)
+    (done .0, ap (λ (l : FreeList). record { contact = lent s .contact; free = l }) (done .1))
+
+pub hk-free-book-kept-spec : {M : Type 1} → statement M
+hk-free-book-kept-spec =
+    tie.close
+    (tie.spec dates-at-requires chosen-requires refusal-requires returns cut-requires returns-2)

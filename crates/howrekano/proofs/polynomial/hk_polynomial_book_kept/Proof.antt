@@ -1,18 +1,89 @@
--- `howrekano::polynomial::hk_polynomial_book_kept` meets its contract: the record that `PolySeg::book_kept` answers is stored and its number returned.
-use mathlib.Core.Path.{_≡_}
-use mathlib.Core.Bool.{true}
-use Rattle.poly_seg.specs.Record.{recordOk}
-use Rattle.poly_seg.specs.Book.{bookOf}
-use Rattle.poly_seg.proofs.PolySeg.book_kept.Symbol as callee
-use Rattle.poly_seg.proofs.PolySeg.book_kept.Met as callee-thm
-use Rattle.howrekano.proofs.polynomial.hk_polynomial_book_kept.Key as self
-use Rattle.howrekano.proofs.polynomial.hk_polynomial_book_kept.Statement as stated
-use Rattle.howrekano.proofs.polynomial.hk_polynomial_book_kept.Code as code
-use Rattle.howrekano.proofs.Thin.{kept}
-use Rattle.howrekano.proofs.Types.{poly-seg, date, bundle, dates, polynomial-booked}
-use Rattle.howrekano.proofs.Stores.{stores}
+-- `howrekano::polynomial::hk_polynomial_book_kept` meets its contract: what is chosen tells the refusal, and where to cut the list that is lent.
+use borrow.Author.Needs.{needs}
+use mathlib.Core.Path.{_≡_, refl, sym, ap, _∙_}
+use native.Mathlib.Omega.{arith}
+use Rattle.units.specs.Granted.{refusalOf}
+use Rattle.segmentation.specs.Granted.{Run}
+use Rattle.free_list.specs.declared.FreeList.{FreeList}
+use Rattle.poly_seg.specs.declared.PolySeg.{PolySeg}
+use Rattle.poly_seg.specs.Book.{withFree}
+use Rattle.poly_seg.specs.Granted.{chosenOf}
+use Rattle.poly_seg.proofs.Calls.{chosen-refused, chosen-done}
+use Rattle.howrekano.specs.Words.{polynomeIn, polySegIn, datesIn}
+use Rattle.howrekano.proofs.polynomial.hk_polynomial_book_kept.Statement.{statement}
+use Rattle.howrekano.proofs.polynomial.hk_polynomial_book_kept.Tie as tie
 
-pub hk-polynomial-book-kept-spec : {M : Type 1} → stated.statement M
-unfolding code.routine
-hk-polynomial-book-kept-spec 𝓤 H 𝓜 𝓖 𝓡 =
-    stores poly-seg date bundle dates polynomial-booked bookOf 𝓤 (kept 𝓤 (λ m. recordOk m ≡ true)) H 𝓜 𝓖 𝓡 self.name code.env callee.name (code.unfolded 𝓤 H 𝓜 𝓡) callee.routine code.calls-poly-seg·PolySeg·book-kept (callee-thm.met 𝓤 H 𝓜 𝓖 𝓡)
+-- the record that is lent
+abbrev lent : tie.Start → PolySeg
+lent c =
+    let a = c .args in
+    polySegIn (a .window) (polynomeIn (a .coefficients .now) (a .offset)) (a .delays .now) (a .delay-count) (a .free .now) (a .count .now)
+
+-- where the call starts, from where the refusal is told
+abbrev start : tie.After-refusal → tie.Start
+start c = c .before .before .before .before .before .before .before
+
+chosen-is : (c : tie.After-chosen) →
+    let s = c .before .before .before .before .before in
+    c .chosen .result ≡ chosenOf (lent s) (s .args .at) (s .args .bundle)
+chosen-is c = rw (c .before .before .polynome-at .ensures) at (c .chosen .ensures)
+
+refusal-is : (c : tie.After-refusal) →
+    let s = start c in
+    c .refusal .result ≡ refusalOf (chosenOf (lent s) (s .args .at) (s .args .bundle) .offer) (datesIn (s .args .dates .now))
+refusal-is c =
+    let k = c .before .before in
+    rw (chosen-is k, k .before .before .before .dates-at .ensures) at (c .refusal .ensures)
+
+dates-at-requires : tie.Need-dates-at-requires
+dates-at-requires c κs = search needs
+
+polynome-at-requires : tie.Need-polynome-at-requires
+polynome-at-requires c κs = search needs
+
+chosen-requires : tie.Need-chosen-requires
+chosen-requires c κs =
+    let p = c .before in
+    rw (p .polynome-at .ensures) (p .before .before .before .pre)
+
+refusal-requires : tie.Need-refusal-requires
+refusal-requires c κs = search needs
+
+returns : tie.Need-returns
+returns c =
+    let e = c .before in
+    rw (chosen-refused _ _ _ (start e .pre) _ (λ z. c .if1 .taken (refusal-is e ∙ z))) (refusal-is e, refl)
+
+cut-requires : tie.Need-cut-requires
+unfolding Run
+cut-requires c κs =
+    let one = c .before .before .before in
+    let e = one .before in (
+      omega arith,
+      (
+        record { from = 0; run = tt },
+        rw (chosen-is (e .before .before)) (chosen-done _ _ _ (start e .pre) _ (sym (refusal-is e) ∙ one .if1 .left) .1),
+      ),
+    )
+
+returns-2 : tie.Need-returns-2
+returns-2 c =
+    let one = c .before .before .before .before in
+    let e = one .before in
+    let k = e .before .before in
+    let s = start e in
+    let done = rw (chosen-is k, k .before .before .before .dates-at .ensures) at (c .cut .ensures) in
+    rw (chosen-done _ _ _ (s .pre) _ (sym (refusal-is e) ∙ one .if1 .left) .0)
+    (done .0, ap (λ (l : FreeList). withFree (lent s) l) (done .1))
+
+pub hk-polynomial-book-kept-spec : {M : Type 1} → statement M
+hk-polynomial-book-kept-spec =
+    tie.close
+    (tie.spec
+    dates-at-requires
+    polynome-at-requires
+    chosen-requires
+    refusal-requires
+    returns
+    cut-requires
+    returns-2)

@@ -1,18 +1,102 @@
--- `howrekano::polynomial::hk_polynomial_dry_run_kept` meets its contract: it answers as `PolySeg::dry_run_kept` does of the record that is lent.
-use mathlib.Core.Path.{_≡_}
+-- `howrekano::polynomial::hk_polynomial_dry_run_kept` meets its contract, refusal by refusal.
+use borrow.Author.Needs.{needs}
 use mathlib.Core.Bool.{true}
+use mathlib.Core.Path.{_≡_, sym, _∙_}
+use Rattle.units.specs.Limits.{bundleOk}
+use Rattle.units.proofs.Choice.{told-yes, told-no}
+use Rattle.free_list.specs.declared.Found.the-variants.{At}
+use Rattle.poly_seg.specs.declared.PolySeg.{PolySeg}
 use Rattle.poly_seg.specs.Record.{recordOk}
-use Rattle.poly_seg.specs.DryRun.{dryRunOf}
-use Rattle.poly_seg.proofs.PolySeg.dry_run_kept.Symbol as callee
-use Rattle.poly_seg.proofs.PolySeg.dry_run_kept.Met as callee-thm
-use Rattle.howrekano.proofs.polynomial.hk_polynomial_dry_run_kept.Key as self
-use Rattle.howrekano.proofs.polynomial.hk_polynomial_dry_run_kept.Statement as stated
-use Rattle.howrekano.proofs.polynomial.hk_polynomial_dry_run_kept.Code as code
-use Rattle.howrekano.proofs.Thin.{kept}
-use Rattle.howrekano.proofs.Types.{poly-seg, date, bundle, offer}
-use Rattle.howrekano.proofs.Asks.{asks}
+use Rattle.poly_seg.specs.DryRun.{foundOf}
+use Rattle.howrekano.specs.Words.{polynomeIn, polySegIn}
+use Rattle.howrekano.proofs.PolynomialDryRun.{dry-bundle, dry-found, search-asks, answer-asks}
+use Rattle.howrekano.proofs.polynomial.hk_polynomial_dry_run_kept.Statement.{statement}
+use Rattle.howrekano.proofs.polynomial.hk_polynomial_dry_run_kept.Tie as tie
 
-pub hk-polynomial-dry-run-kept-spec : {M : Type 1} → stated.statement M
-unfolding code.routine
-hk-polynomial-dry-run-kept-spec 𝓤 H 𝓜 𝓖 𝓡 =
-    asks poly-seg date bundle offer dryRunOf 𝓤 (kept 𝓤 (λ m. recordOk m ≡ true)) H 𝓜 𝓖 𝓡 self.name code.env callee.name (code.unfolded 𝓤 H 𝓜 𝓡) callee.routine code.calls-poly-seg·PolySeg·dry-run-kept (callee-thm.met 𝓤 H 𝓜 𝓖 𝓡)
+-- the record that is lent
+abbrev lent : tie.Start → PolySeg
+lent c =
+    let a = c .args in
+    polySegIn (a .window) (polynomeIn (a .coefficients .now) (a .offset)) (a .delays .now) (a .delay-count) (a .free .now) (a .count)
+
+keeps : (c : tie.Start) → recordOk (lent c) ≡ true
+keeps c = c .pre
+
+-- the test that holds
+bundle-holds : (c : tie.Else1) → let a = c .before .before .before .args in bundleOk (a .at) (a .bundle) ≡ true
+bundle-holds c = told-yes (c .before .ok-at .ensures) (c .if1 .left)
+
+-- what the search gives
+search-is : (c : tie.After-find-offer) →
+    let s = c .before .before .before .before .before in
+    c .find-offer .result ≡ foundOf (lent s) (s .args .at .0) (s .args .bundle .size .0)
+search-is c = rw (c .before .before .before .before .polynome-at .ensures) at (c .find-offer .ensures)
+
+found : (c : tie.After-send) →
+    let s = c .before .before .before .before .before .before .before in
+    foundOf (lent s) (s .args .at .0) (s .args .bundle .size .0) ≡ At (c .send .given .0 .0) (c .send .given .0 .1 .0)
+found c = sym (search-is (c .before .before)) ∙ c .send .given .1
+
+polynome-at-requires : tie.Need-polynome-at-requires
+polynome-at-requires c κs = search needs
+
+ok-at-requires : tie.Need-ok-at-requires
+ok-at-requires c κs = search needs
+
+refused-requires : tie.Need-refused-requires
+refused-requires c κs = search needs
+
+returns : tie.Need-returns
+returns c =
+    let t = c .before .before in
+    c .refused .ensures ∙ sym (dry-bundle _ _ _ (keeps (t .before .before)) (told-no (t .ok-at .ensures) (c .before .if1 .taken)))
+
+find-offer-requires : tie.Need-find-offer-requires
+find-offer-requires c κs =
+    let e = c .before in
+    let p = e .before .before in
+    rw (p .polynome-at .ensures) (search-asks _ _ _ (keeps (p .before)) (bundle-holds e))
+
+enum-known-send : tie.Need-enum-known-send
+enum-known-send c = search needs
+
+enum-told : tie.Need-enum-told
+enum-told c = search needs
+
+refused-requires-2 : tie.Need-refused-requires-2
+refused-requires-2 c κs = search needs
+
+returns-2 : tie.Need-returns-2
+returns-2 c =
+    let f = c .before .before .before in
+    let e = f .before .before in
+    c .refused2 .ensures
+    ∙ sym (dry-found _ _ _ (keeps (e .before .before .before)) (bundle-holds e) (sym (search-is f) ∙ c .before .enum-told .given .1))
+
+answer-at-requires : tie.Need-answer-at-requires
+answer-at-requires c κs =
+    let p = c .before in
+    let e = p .before .before .before .before in
+    answer-asks _ _ _ (keeps (e .before .before .before)) (bundle-holds e) _ _ (found p)
+
+returns-3 : tie.Need-returns-3
+returns-3 c =
+    let p = c .before .before in
+    let e = p .before .before .before .before in
+    c .answer-at .ensures ∙ sym (dry-found _ _ _ (keeps (e .before .before .before)) (bundle-holds e) (found p))
+
+pub hk-polynomial-dry-run-kept-spec : {M : Type 1} → statement M
+hk-polynomial-dry-run-kept-spec =
+    tie.close
+    (tie.spec
+    polynome-at-requires
+    ok-at-requires
+    refused-requires
+    returns
+    find-offer-requires
+    enum-known-send
+    enum-told
+    refused-requires-2
+    returns-2
+    answer-at-requires
+    returns-3)

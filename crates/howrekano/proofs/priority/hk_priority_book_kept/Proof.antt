@@ -1,18 +1,81 @@
--- `howrekano::priority::hk_priority_book_kept` meets its contract: the record that `PrioritySeg::book_kept` answers is stored and its number returned.
-use mathlib.Core.Path.{_≡_}
-use mathlib.Core.Bool.{true}
-use Rattle.pseg.specs.Record.{recordOk}
-use Rattle.pseg.specs.Book.{bookOf}
-use Rattle.pseg.proofs.PrioritySeg.book_kept.Symbol as callee
-use Rattle.pseg.proofs.PrioritySeg.book_kept.Met as callee-thm
-use Rattle.howrekano.proofs.priority.hk_priority_book_kept.Key as self
-use Rattle.howrekano.proofs.priority.hk_priority_book_kept.Statement as stated
-use Rattle.howrekano.proofs.priority.hk_priority_book_kept.Code as code
-use Rattle.howrekano.proofs.Thin.{kept}
-use Rattle.howrekano.proofs.Types.{priority-seg, date, bundle, dates, priority-booked}
-use Rattle.howrekano.proofs.Stores.{stores}
+-- `howrekano::priority::hk_priority_book_kept` meets its contract: refused as the dry run's answer tells, else the list that is lent is set.
+use borrow.Author.Needs.{needs}
+use mathlib.Core.Path.{_≡_, refl, sym, ap, _∙_}
+use Rattle.units.specs.Granted.{refusalOf}
+use Rattle.bookings.specs.declared.Bookings.{Bookings}
+use Rattle.booking_words.proofs.Covered.{cover-follows}
+use Rattle.pseg.specs.declared.PrioritySeg.{PrioritySeg}
+use Rattle.pseg.specs.DryRun.{dryRunOf}
+use Rattle.pseg.proofs.Facts.{facts}
+use Rattle.pseg.proofs.ByDryRun.{dry-refused, dry-done}
+use Rattle.howrekano.specs.Words.{prioritySegIn, datesIn}
+use Rattle.howrekano.proofs.priority.hk_priority_book_kept.Statement.{statement}
+use Rattle.howrekano.proofs.priority.hk_priority_book_kept.Tie as tie
 
-pub hk-priority-book-kept-spec : {M : Type 1} → stated.statement M
-unfolding code.routine
-hk-priority-book-kept-spec 𝓤 H 𝓜 𝓖 𝓡 =
-    stores priority-seg date bundle dates priority-booked bookOf 𝓤 (kept 𝓤 (λ m. recordOk m ≡ true)) H 𝓜 𝓖 𝓡 self.name code.env callee.name (code.unfolded 𝓤 H 𝓜 𝓡) callee.routine code.calls-pseg·PrioritySeg·book-kept (callee-thm.met 𝓤 H 𝓜 𝓖 𝓡)
+-- the record that is lent
+abbrev lent : tie.Start → PrioritySeg
+lent c =
+    let a = c .args in
+    prioritySegIn (a .window) (a .rates .now) (a .rate-count) (a .delays .now) (a .delay-count) (a .bookings .now) (a .count .now)
+
+-- where the call starts, from where the refusal is told
+abbrev start : tie.After-refusal → tie.Start
+start c = c .before .before .before .before .before
+
+refusal-is : (c : tie.After-refusal) →
+    let s = start c in
+    c .refusal .result ≡ refusalOf (dryRunOf (lent s) (s .args .at) (s .args .bundle)) (datesIn (s .args .dates .now))
+refusal-is c =
+    let k = c .before in
+    rw (k .hk-priority-dry-run-kept .ensures, k .before .before .dates-at .ensures) at (c .refusal .ensures)
+
+none-refused : (c : tie.Else1) →
+    let s = start (c .before) in
+    refusalOf (dryRunOf (lent s) (s .args .at) (s .args .bundle)) (datesIn (s .args .dates .now)) ≡ 0
+none-refused c = sym (refusal-is (c .before)) ∙ c .if1 .left
+
+dates-at-requires : tie.Need-dates-at-requires
+dates-at-requires c κs = search needs
+
+hk-priority-dry-run-kept-requires : tie.Need-hk-priority-dry-run-kept-requires
+hk-priority-dry-run-kept-requires c κs = search needs
+
+refusal-requires : tie.Need-refusal-requires
+refusal-requires c κs = search needs
+
+returns : tie.Need-returns
+returns c =
+    let e = c .before in
+    rw (dry-refused _ _ _ _ (start e .pre) (λ z. c .if1 .taken (refusal-is e ∙ z))) (refusal-is e, refl)
+
+of-requires : tie.Need-of-requires
+of-requires c κs =
+    let one = c .before .before .before .before in
+    dry-done _ _ _ _ (start (one .before) .pre) (none-refused one) .1
+
+set-requires : tie.Need-set-requires
+set-requires c κs =
+    let q = facts _ (start (c .before .before .before .before .before .before) .pre) in
+    (q .few, (cover-follows _ _ _ (q .cover), q .unused))
+
+returns-2 : tie.Need-returns-2
+returns-2 c =
+    let level = c .before in
+    let one = level .before .before .before .before .before in
+    let e = one .before in
+    let s = start e in
+    let done = rw (level .of .ensures, e .before .before .before .dates-at .ensures) at (c .set .ensures) in
+    rw (dry-done _ _ _ _ (s .pre) (none-refused one) .0)
+    (done .0, ap (λ (l : Bookings). record { contact = lent s .contact; bookings = l }) (done .1))
+
+pub hk-priority-book-kept-spec : {M : Type 1} → statement M
+hk-priority-book-kept-spec =
+    tie.close
+    (tie.spec
+    dates-at-requires
+    hk-priority-dry-run-kept-requires
+    refusal-requires
+    returns
+    of-requires
+    set-requires
+    returns-2)

@@ -1,0 +1,39 @@
+-- The records that numbers in memory make: what the kept calls, to which arrays of numbers are lent, are promised over.
+use Prim.Native.Nat.{ℕ}
+use lib.IntN.{ℤ}
+use mathlib.Core.List.{List}
+use lib.ListN.{getD}
+use Rattle.units.specs.declared.Date.{Date}
+use Rattle.units.specs.declared.Interval.{Interval}
+use Rattle.units.specs.declared.TxData.{TxData}
+use Rattle.units.specs.Answer.{interval}
+use Rattle.contact.specs.declared.Contact.{Contact}
+use Rattle.poly.specs.declared.Polynome.{Polynome}
+use Rattle.seg.specs.declared.FreeVolume.{FreeVolume}
+use Rattle.pseg.specs.declared.PrioritySeg.{PrioritySeg}
+use Rattle.poly_seg.specs.declared.PolySeg.{PolySeg}
+use Rattle.words.specs.Words.{volumesIn, delaysIn}
+use Rattle.free_words.specs.Words.{freeIn}
+use Rattle.booking_words.specs.Words.{listIn}
+
+abbrev pub contactIn : Interval → List ℕ → ℕ → List ℕ → ℕ → Contact
+contactIn w rates m delays k =
+    record { window = w; rates = volumesIn rates; «rate_count» = m; delays = delaysIn delays; «delay_count» = k }
+
+abbrev pub freeVolumeIn : Interval → List ℕ → ℕ → List ℕ → ℕ → List ℕ → ℕ → FreeVolume
+freeVolumeIn w rates m delays k free n = record { contact = contactIn w rates m delays k; free = freeIn free n }
+
+abbrev pub prioritySegIn : Interval → List ℕ → ℕ → List ℕ → ℕ → List ℕ → ℕ → PrioritySeg
+prioritySegIn w rates m delays k bookings n =
+    record { contact = contactIn w rates m delays k; bookings = listIn bookings n }
+
+abbrev pub polynomeIn : List ℤ → Date → Polynome
+polynomeIn coefficients offset = record { coefficients = coefficients; offset = offset }
+
+abbrev pub polySegIn : Interval → Polynome → List ℕ → ℕ → List ℕ → ℕ → PolySeg
+polySegIn w p delays k free n =
+    record { window = w; polynome = p; delays = delaysIn delays; «delay_count» = k; free = freeIn free n }
+
+-- send start, send end, receive start, receive end
+abbrev pub datesIn : List ℕ → TxData
+datesIn l = record { send = interval (getD l 0 0) (getD l 1 0); recv = interval (getD l 2 0) (getD l 3 0) }
