@@ -1,0 +1,94 @@
+/* Cases 1, 8, 10 and 11 of document 01 from C, by both doors, on the library as the kit compiles it for x86-64. */
+#include "howrekano.h"
+
+int printf(const char *, ...);
+
+static void show(const char *what, hk_offer o)
+{
+    printf("%s: %d, send %lu %lu, receive %lu %lu\n", what, o.number, o.dates.send.start, o.dates.send.end, o.dates.recv.start, o.dates.recv.end);
+}
+
+static void list(const char *what, int number, const hk_list *l)
+{
+    printf("%s: %d,", what, number);
+    for (size_t i = 0; i < l->count; i++)
+        printf(" [%lu,%lu) %lu", l->segments[i].start, l->segments[i].end, l->segments[i].value);
+    printf("\n");
+}
+
+static const uint64_t *words(const hk_segment *s) { return (const uint64_t *)s; }
+
+typedef hk_offer (*dry_run)(hk_interval, const uint64_t *, size_t, const uint64_t *, size_t, const uint64_t *, size_t, uint64_t, hk_bundle);
+typedef uint8_t (*book)(hk_interval, const uint64_t *, size_t, const uint64_t *, size_t, uint64_t *, size_t *, uint64_t, hk_bundle, const uint64_t *);
+
+/* a dry run and the booking of what it offers, by the kept door */
+static void booked(dry_run ask, book take, hk_listed *m, uint64_t at, hk_bundle b)
+{
+    hk_contact *c = &m->contact;
+    hk_offer o = ask(c->window, words(c->rates), c->rate_count, words(c->delays), c->delay_count, words(m->list.segments), m->list.count, at, b);
+    show("kept offer", o);
+    int n = take(c->window, words(c->rates), c->rate_count, words(c->delays), c->delay_count, (uint64_t *)m->list.segments, &m->list.count, at, b, (const uint64_t *)&o.dates);
+    list("kept booking", n, &m->list);
+}
+
+static void free_volume(const hk_contact *opening)
+{
+    hk_listed_opened opened = hk_free_open(opening);
+    printf("free: %d, ok %d\n", opened.number, hk_free_ok(&opened.manager));
+    hk_bundle b = {15, 0};
+    hk_listed kept = opened.manager, total = opened.manager;
+    booked(hk_free_dry_run_kept, hk_free_book_kept, &kept, 3, b);
+    hk_offer o = hk_free_dry_run(&total, 3, b);
+    show("total offer", o);
+    int n = hk_free_book(&total, 3, b, &o.dates);
+    hk_listing l = hk_free_list(&total);
+    list("total booking", n + l.number, &l.list);
+    printf("again: %d\n", hk_free_book(&total, 3, b, &o.dates));
+    total.list.count = 65;
+    printf("damaged: %d %d %d\n", hk_free_ok(&total), hk_free_dry_run(&total, 3, b).number, hk_free_book(&total, 3, b, &o.dates));
+}
+
+static void priority(const hk_contact *opening)
+{
+    hk_listed_opened opened = hk_priority_open(opening);
+    printf("priority: %d\n", opened.number);
+    booked(hk_priority_dry_run_kept, hk_priority_book_kept, &opened.manager, 2, (hk_bundle){30, 1});
+    booked(hk_priority_dry_run_kept, hk_priority_book_kept, &opened.manager, 0, (hk_bundle){30, 2});
+}
+
+static void polynomial(const hk_contact *c)
+{
+    hk_polynomial_opening opening = {c->window, {{10, 0, 0, 0}, 0}, {c->delays[0]}, 1};
+    hk_polynomial_opened opened = hk_polynomial_open(&opening);
+    hk_polynomial m = opened.manager;
+    hk_bundle b = {15, 0};
+    show("polynomial", hk_polynomial_dry_run(&m, 3, b));
+    hk_offer o = hk_polynomial_dry_run_kept(m.window, m.polynome.coefficients, m.polynome.offset, words(m.delays), m.delay_count, words(m.free.segments), m.free.count, 3, b);
+    int n = hk_polynomial_book_kept(m.window, m.polynome.coefficients, m.polynome.offset, words(m.delays), m.delay_count, (uint64_t *)m.free.segments, &m.free.count, 3, b, (const uint64_t *)&o.dates);
+    list("kept booking", opened.number + n, &m.free);
+}
+
+static void queue(const hk_contact *c)
+{
+    hk_queue_opening opening = {c->window, 10, 2, 3, {true, true, false}, {0}};
+    hk_queue_opened opened = hk_queue_open(&opening);
+    hk_queue m = opened.manager;
+    hk_bundle b = {25, 1};
+    hk_offer o = hk_queue_dry_run_kept(&m, 0, b);
+    show("queue", o);
+    int n = hk_queue_book_kept(&m, 0, b, &o.dates);
+    hk_queue_listing l = hk_queue_list(&m);
+    printf("kept booking: %d, %zu classes, %lu %lu %lu\n", opened.number + n + l.number, l.classes, l.queues[0], l.queues[1], l.queues[2]);
+    show("queue", hk_queue_dry_run(&m, 0, (hk_bundle){25, 0}));
+    printf("enqueue: %d\n", hk_queue_enqueue(&m, b));
+}
+
+int main(void)
+{
+    hk_contact opening = {{0, 10}, {{0, 10, 10}}, 1, {{0, 10, 3}}, 1};
+    free_volume(&opening);
+    priority(&opening);
+    polynomial(&opening);
+    queue(&opening);
+    return 0;
+}

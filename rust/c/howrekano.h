@@ -1,0 +1,71 @@
+/* The static library for C. Times, volumes, rates and delays are whole numbers within document 01's limits; 01's numbers are answered.
+   The total calls take any record, test it, and answer 1 if it is damaged. The calls whose names end in _kept test nothing: they may be
+   made only with a record that comes from an opening or that hk_.._ok has passed, and they leave one that keeps its rules. Their lists
+   are lent as numbers: (const uint64_t *)record.contact.rates, and so on, with all their places. */
+#ifndef HOWREKANO_H
+#define HOWREKANO_H
+#include <stdbool.h>
+#include <stddef.h>
+#include <stdint.h>
+
+typedef struct { uint64_t start, end; } hk_interval;
+typedef struct { uint64_t start, end, value; } hk_segment; /* value: a rate, a volume, a delay, or a level: 0 unbooked, else the priority and one */
+typedef struct { uint64_t size; uint8_t priority; } hk_bundle;
+typedef struct { hk_interval send, recv; } hk_dates;
+typedef struct { uint8_t number; hk_dates dates; } hk_offer;
+typedef struct { hk_segment segments[64]; size_t count; } hk_list;
+typedef struct { uint8_t number; hk_list list; } hk_listing;
+
+/* the free-volume and the priority manager; in a record a rate stands as a volume, its rate times its length */
+typedef struct { hk_interval window; hk_segment rates[16]; size_t rate_count; hk_segment delays[16]; size_t delay_count; } hk_contact;
+typedef struct { hk_contact contact; hk_list list; } hk_listed;
+typedef struct { uint8_t number; hk_listed manager; } hk_listed_opened;
+
+#define HK_LISTED(M) \
+    hk_listed_opened hk_##M##_open(const hk_contact *opening); \
+    bool hk_##M##_ok(const hk_listed *m); \
+    hk_listing hk_##M##_list(const hk_listed *m); \
+    hk_offer hk_##M##_dry_run(const hk_listed *m, uint64_t at, hk_bundle bundle); \
+    uint8_t hk_##M##_book(hk_listed *m, uint64_t at, hk_bundle bundle, const hk_dates *dates); \
+    hk_offer hk_##M##_dry_run_kept(hk_interval window, const uint64_t *rates, size_t rate_count, const uint64_t *delays, \
+        size_t delay_count, const uint64_t *list, size_t count, uint64_t at, hk_bundle bundle); \
+    uint8_t hk_##M##_book_kept(hk_interval window, const uint64_t *rates, size_t rate_count, const uint64_t *delays, \
+        size_t delay_count, uint64_t *list, size_t *count, uint64_t at, hk_bundle bundle, const uint64_t dates[4]);
+HK_LISTED(free)
+HK_LISTED(priority)
+
+/* the polynomial manager */
+typedef struct { int64_t coefficients[4]; uint64_t offset; } hk_polynome;
+typedef struct { hk_interval window; hk_polynome polynome; hk_segment delays[16]; size_t delay_count; } hk_polynomial_opening;
+typedef struct { hk_interval window; hk_polynome polynome; hk_segment delays[16]; size_t delay_count; hk_list free; } hk_polynomial;
+typedef struct { uint8_t number; hk_polynomial manager; } hk_polynomial_opened;
+
+hk_polynomial_opened hk_polynomial_open(const hk_polynomial_opening *opening);
+bool hk_polynomial_ok(const hk_polynomial *m);
+hk_listing hk_polynomial_list(const hk_polynomial *m);
+hk_offer hk_polynomial_dry_run(const hk_polynomial *m, uint64_t at, hk_bundle bundle);
+uint8_t hk_polynomial_book(hk_polynomial *m, uint64_t at, hk_bundle bundle, const hk_dates *dates);
+hk_offer hk_polynomial_dry_run_kept(hk_interval window, const int64_t coefficients[4], uint64_t offset, const uint64_t *delays,
+    size_t delay_count, const uint64_t *free, size_t count, uint64_t at, hk_bundle bundle);
+uint8_t hk_polynomial_book_kept(hk_interval window, const int64_t coefficients[4], uint64_t offset, const uint64_t *delays,
+    size_t delay_count, uint64_t *free, size_t *count, uint64_t at, hk_bundle bundle, const uint64_t dates[4]);
+
+/* the queue manager */
+typedef struct { bool add_delay, self_update, budgeted; } hk_flags;
+typedef struct { hk_interval window; uint64_t rate, delay; size_t classes; hk_flags flags; uint64_t budgets[8]; } hk_queue_opening;
+typedef struct { hk_interval window; uint64_t rate, delay; size_t classes; hk_flags flags; uint64_t queues[8], budgets[8]; } hk_queue;
+typedef struct { uint8_t number; hk_queue manager; } hk_queue_opened;
+typedef struct { uint8_t number; size_t classes; uint64_t queues[8]; } hk_queue_listing;
+
+hk_queue_opened hk_queue_open(const hk_queue_opening *opening);
+bool hk_queue_ok(const hk_queue *m);
+hk_queue_listing hk_queue_list(const hk_queue *m);
+hk_offer hk_queue_dry_run(const hk_queue *m, uint64_t at, hk_bundle bundle);
+hk_offer hk_queue_dry_run_kept(const hk_queue *m, uint64_t at, hk_bundle bundle);
+uint8_t hk_queue_book(hk_queue *m, uint64_t at, hk_bundle bundle, const hk_dates *dates);
+uint8_t hk_queue_book_kept(hk_queue *m, uint64_t at, hk_bundle bundle, const hk_dates *dates);
+uint8_t hk_queue_enqueue(hk_queue *m, hk_bundle bundle);
+uint8_t hk_queue_enqueue_kept(hk_queue *m, hk_bundle bundle);
+uint8_t hk_queue_dequeue(hk_queue *m, hk_bundle bundle);
+uint8_t hk_queue_dequeue_kept(hk_queue *m, hk_bundle bundle);
+#endif
