@@ -5,12 +5,15 @@ use Rattle.bookings.specs.declared.BookingSegment.{BookingSegment}
 use Rattle.bookings.specs.declared.Bookings.{Bookings}
 use Rattle.words.specs.Words.{threes}
 
+-- a booked segment; its level is one above the value that 01 gives, -1 to 127
 abbrev pub bookingFrom : ℕ → ℕ → ℕ → BookingSegment
 bookingFrom a b c = record { start = record { 0 = a }; end = record { 0 = b }; level = record { 0 = c } }
 
+-- an unused place
 abbrev pub zeroBooking : BookingSegment
 zeroBooking = bookingFrom 0 0 0
 
+-- the bookings that the numbers are
 abbrev pub bookingsIn : List ℕ → List BookingSegment
 bookingsIn l = threes bookingFrom l
 

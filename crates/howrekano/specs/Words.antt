@@ -16,20 +16,25 @@ use Rattle.words.specs.Words.{volumesIn, delaysIn}
 use Rattle.free_words.specs.Words.{freeIn}
 use Rattle.booking_words.specs.Words.{listIn}
 
+-- the window, and the rates and delays that the numbers are, with how many of each are used
 abbrev pub contactIn : Interval → List ℕ → ℕ → List ℕ → ℕ → Contact
 contactIn w rates m delays k =
     record { window = w; rates = volumesIn rates; «rate_count» = m; delays = delaysIn delays; «delay_count» = k }
 
+-- 01, "Managers", Free volume: a contact and its free list
 abbrev pub freeVolumeIn : Interval → List ℕ → ℕ → List ℕ → ℕ → List ℕ → ℕ → FreeVolume
 freeVolumeIn w rates m delays k free n = record { contact = contactIn w rates m delays k; free = freeIn free n }
 
+-- Priority: a contact and its bookings
 abbrev pub prioritySegIn : Interval → List ℕ → ℕ → List ℕ → ℕ → List ℕ → ℕ → PrioritySeg
 prioritySegIn w rates m delays k bookings n =
     record { contact = contactIn w rates m delays k; bookings = listIn bookings n }
 
+-- the four coefficients and the offset
 abbrev pub polynomeIn : List ℤ → Date → Polynome
 polynomeIn coefficients offset = record { coefficients = coefficients; offset = offset }
 
+-- Polynomial: window, polynomial, delays and free list
 abbrev pub polySegIn : Interval → Polynome → List ℕ → ℕ → List ℕ → ℕ → PolySeg
 polySegIn w p delays k free n =
     record { window = w; polynome = p; delays = delaysIn delays; «delay_count» = k; free = freeIn free n }

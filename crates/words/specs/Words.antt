@@ -11,14 +11,18 @@ threes make (a ∷ []) = []
 threes make (a ∷ b ∷ []) = []
 threes make (a ∷ b ∷ c ∷ l) = make a b c ∷ threes make l
 
+-- a rate segment as the record keeps it, or a listed stretch of free time (01, "Records")
 abbrev pub volumeFrom : ℕ → ℕ → ℕ → VolumeSegment
 volumeFrom a b c = record { start = record { 0 = a }; end = record { 0 = b }; volume = record { 0 = c } }
 
+-- a delay segment
 abbrev pub delayFrom : ℕ → ℕ → ℕ → DelaySegment
 delayFrom a b c = record { start = record { 0 = a }; end = record { 0 = b }; delay = record { 0 = c } }
 
+-- the rate segments, or the free list, that the numbers are
 abbrev pub volumesIn : List ℕ → List VolumeSegment
 volumesIn l = threes volumeFrom l
 
+-- the delay segments that the numbers are
 abbrev pub delaysIn : List ℕ → List DelaySegment
 delaysIn l = threes delayFrom l

@@ -52,6 +52,7 @@ fn an_empty_segment_is_booked() {
     }
     let last = bundle(9, 1);
     assert!(ours.dry_run_tx(5, &last).is_none());
+    assert!(original.dry_run_tx(5, &last).is_none());
     assert_eq!(book(&mut ours, 0, &last), (5, 5));
     assert_eq!(book(&mut original, 0, &last), (5, 5));
 }
