@@ -7,12 +7,13 @@ use borrow.Author.Tests.{eq-eqb, ne-eqb}
 use lib.Dec.{eqb}
 use lib.ListN.{length, length-append}
 use Rattle.units.specs.declared.Offer.{Offer}
+use Rattle.units.specs.declared.Volume.{Volume}
 use Rattle.units.specs.Logic.{pick}
 use Rattle.text.specs.Line.{written}
-use Rattle.text.specs.Text.{byteText, datesText}
-use Rattle.text.proofs.Words.{byte-length, dates-length}
+use Rattle.text.specs.Text.{byteText, numberText, datesText}
+use Rattle.text.proofs.Words.{byte-length, word-length, dates-length}
 use Rattle.text.proofs.Written.{and-then}
-use Rattle.answer.specs.Lines.{lineEnd, numberLine, offerLine, listLine}
+use Rattle.answer.specs.Lines.{lineEnd, numberLine, offerLine, listLine, roomLine}
 
 -- the text stands at the front of the line, and r is its length
 abbrev pub Stored : List ℕ → List ℕ → ℕ → List ℕ → Type 0
@@ -61,4 +62,18 @@ module _ (line : List ℕ) {r : ℕ} {end : List ℕ} where
         after-0 _ _ z (
           simp (length-append, byte-length) (omega (arith, g .0)),
           and-then line 0 _ _ (byte-length 0) e (rw i at counted) j,
+        )
+
+  module _ (number : ℕ) (room : Volume) where
+    pub room-number : (number ≡ 0 → ⊥) → Stored line (numberLine number) r end → Stored line (roomLine number room) r end
+    unfolding roomLine
+    room-number ne s = alone _ _ ne s
+
+    pub room-stored : number ≡ 0 → {a b : List ℕ} {p q : ℕ} → a ≡ written line 0 (byteText 0) → b ≡ written a p (numberText (room .0))
+        → end ≡ written b q lineEnd → p ≡ 2 → q ≡ 18 → r ≡ 19 → Stored line (roomLine number room) r end
+    unfolding roomLine
+    room-stored z {p = p} e f g h k m =
+        after-0 _ _ z (
+          m ∙ simp (length-append, byte-length, word-length),
+          and-then line 0 _ _ (byte-length 0) e (and-then _ p _ _ (word-length 8 _) f g (omega arith)) h,
         )

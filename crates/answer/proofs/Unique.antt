@@ -14,6 +14,8 @@ use Rattle.answer.proofs.put_volumes.Kinds as volumes-kinds
 use Rattle.answer.proofs.put_volumes.Reads as volumes-reads
 use Rattle.answer.proofs.put_bookings.Kinds as bookings-kinds
 use Rattle.answer.proofs.put_bookings.Reads as bookings-reads
+use Rattle.answer.proofs.put_room.Kinds as room-kinds
+use Rattle.answer.proofs.put_room.Reads as room-reads
 use Rattle.answer.proofs.put_queues.Kinds as queues-kinds
 use Rattle.answer.proofs.put_queues.Reads as queues-reads
 use Rattle.answer.proofs.rows.put_volumes.Kinds as volume-rows-kinds
@@ -59,6 +61,10 @@ module _ (κs : Lfts 1) where
   pub queues-unique : (a : Dens κs queues-kinds.ps)
       → Determined (Leaves (λ (s : AtExit (endedOf 1 queues-kinds.ps queues-kinds.r) κs). s .0 .now) (queues-reads.Post κs a))
   queues-unique a = named _ _ _
+
+  pub room-unique : (a : Dens κs room-kinds.ps)
+      → Determined (Leaves (λ (s : AtExit (endedOf 1 room-kinds.ps room-kinds.r) κs). s .0 .now) (room-reads.Post κs a))
+  room-unique a = named _ _ _
 
   pub volume-rows-unique : (a : Dens κs volume-rows-kinds.ps)
       → Determined (Leaves (λ (s : AtExit (endedOf 1 volume-rows-kinds.ps volume-rows-kinds.r) κs). s .0 .now) (volume-rows-reads.Post κs a))

@@ -9,7 +9,7 @@ use Rattle.units.specs.Logic.{pick}
 use Rattle.free_list.specs.declared.FreeList.{FreeList}
 use Rattle.free_list.specs.Cut.{listed}
 use Rattle.bookings.specs.declared.Bookings.{Bookings}
-use Rattle.text.specs.Text.{byteText, datesText, listText}
+use Rattle.text.specs.Text.{byteText, numberText, datesText, listText}
 use Rattle.answer.specs.Rows.{volumeText, bookingText, bookedRows, queueText}
 
 abbrev pub lineEnd : List ℕ
@@ -38,3 +38,7 @@ bookingsLine number l = listLine number (l .count) (listText bookingText (booked
 -- the class count and each class's queue
 abbrev pub queuesLine : ℕ → ℕ → List Volume → List ℕ
 queuesLine number classes queues = listLine number classes (listText queueText (take classes queues))
+
+-- after 15's 0, the room in 8 bytes (02, R-1)
+unfoldable pub roomLine : ℕ → Volume → List ℕ
+roomLine number room = pick (eqb number 0) (byteText 0 ++ (numberText (room .0) ++ lineEnd)) (numberLine number)

@@ -11,7 +11,7 @@ ghost use mathlib.Core.Path.{_≡_};
 ghost use Prim.Native.Nat.{_≤_};
 ghost use lib.ListN.{length};
 ghost use Rattle.text.specs.Line.{written};
-ghost use Rattle.answer.specs.Lines.{numberLine, offerLine, volumesLine, bookingsLine, queuesLine};
+ghost use Rattle.answer.specs.Lines.{numberLine, offerLine, volumesLine, bookingsLine, queuesLine, roomLine};
 
 // The number alone.
 pub fn put_number(out: &mut [u8; LINE], number: u8) -> usize
@@ -92,4 +92,18 @@ pub fn put_queues(
     let at = rows::put_queues(out, classes, queues);
     text::put_line_end(out, at);
     at + 1
+}
+
+// The room: after 0, the sum of the listed volumes.
+pub fn put_room(out: &mut [u8; LINE], number: u8, room: Volume) -> usize
+    ensures { λ r. ⌜ r ≡ length (roomLine number room) ⌝ }
+    ensures { λ _. ⌜ now (out .exit) ≡ written (now (out .entry)) 0 (roomLine number room) ⌝ }
+{
+    if number != 0 {
+        return put_number(out, number);
+    }
+    text::put_byte(out, 0, 0);
+    text::put_number(out, 2, room.0);
+    text::put_line_end(out, 18);
+    19
 }

@@ -13,6 +13,7 @@ use Rattle.contact.specs.Record.{contactOk}
 use Rattle.free_list.specs.Listed.{segmentOk, listOk}
 use Rattle.free_list.specs.Offer.{furtherOf, offerOf}
 use Rattle.free_list.specs.Cut.{leftOf, cutOf, cutList}
+use Rattle.free_list.specs.Room.{roomOf}
 use Rattle.seg.specs.Record.{freeOk, recordOk as freeRecordOk}
 use Rattle.seg.specs.Open.{openOf as openFree}
 use Rattle.seg.specs.DryRun.{dryRunOf as dryRunFree}
@@ -43,5 +44,5 @@ use Rattle.cases.specs.Table.{table}
 use Rattle.cases.specs.Claim.{openingOf, listAs, answerOf, nextOf, answersOf, saidOf, Holds}
 
 pub cases : Holds table
-unfolding both allOf windowOk loadOk bundleOk sameDates offers padded rateAt capOf tickOf closeOf endOf fromDate delaysOf spans covers delaysOk noVolume noDelay totalOf volumeOk openContact contactOk segmentOk listOk furtherOf offerOf leftOf cutOf cutList freeOk freeRecordOk openFree dryRunFree bookFree listFree follows coverOk noBooking reachOf beginOf brokenOf freeOf turnOf searchOf partsOf setOf setBookings bookingsOk priorityRecordOk openPriority dryRunPriority bookPriority listPriority stepOf hornerOf capacityTo magOf rangeOk coefficientsOk polyOk areaFrom halveOf findEnd delayOk polynomialDelaysOk openPolynomial polynomialRecordOk offerPolynomial dryRunPolynomial rateOk budgetsOk openQueue queueRecordOk answerAt dryRunQueue addTo enqueueAt bookQueue listQueue keptFree keptPriority keptPolynomial keptQueue dryRunAs bookAs openingOf listAs answerOf nextOf answersOf saidOf Holds
+unfolding roomOf both allOf windowOk loadOk bundleOk sameDates offers padded rateAt capOf tickOf closeOf endOf fromDate delaysOf spans covers delaysOk noVolume noDelay totalOf volumeOk openContact contactOk segmentOk listOk furtherOf offerOf leftOf cutOf cutList freeOk freeRecordOk openFree dryRunFree bookFree listFree follows coverOk noBooking reachOf beginOf brokenOf freeOf turnOf searchOf partsOf setOf setBookings bookingsOk priorityRecordOk openPriority dryRunPriority bookPriority listPriority stepOf hornerOf capacityTo magOf rangeOk coefficientsOk polyOk areaFrom halveOf findEnd delayOk polynomialDelaysOk openPolynomial polynomialRecordOk offerPolynomial dryRunPolynomial rateOk budgetsOk openQueue queueRecordOk answerAt dryRunQueue addTo enqueueAt bookQueue listQueue keptFree keptPriority keptPolynomial keptQueue dryRunAs bookAs openingOf listAs answerOf nextOf answersOf saidOf Holds
 cases = (refl, refl, (refl, refl, (refl, refl, (refl, refl, (refl, refl, (refl, refl, (refl, refl, (refl, refl, (refl, refl, (refl, refl, (refl, refl, (refl, refl, (refl, refl, tt)))))))))))))

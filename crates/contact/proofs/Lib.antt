@@ -5,6 +5,7 @@ pub mod Delays
 pub mod Refusals
 pub mod Records
 pub mod Sound
+pub mod Total
 pub mod Fresh
 pub mod Unique
 pub mod Lookup

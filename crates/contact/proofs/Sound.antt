@@ -7,6 +7,7 @@ use native.Mathlib.Omega.{arith}
 use lib.ListN.{take}
 use borrow.Author.Tests.{eqb-true}
 use Rattle.units.specs.Logic.{allOf}
+use Rattle.units.specs.Limits.{volumeMax}
 use Rattle.units.proofs.Logic.{both-fst, both-snd}
 use Rattle.units.proofs.Windows.{Window, window}
 use Rattle.segmentation.specs.declared.VolumeSegment.{VolumeSegment}
@@ -14,7 +15,7 @@ use Rattle.segmentation.specs.End.{closeOf}
 use Rattle.segmentation.specs.Granted.{Run}
 use Rattle.contact.specs.declared.Contact.{Contact}
 use Rattle.contact.specs.Segments.{volumeSpan, delaySpan, spans, delayOk, delaysOk}
-use Rattle.contact.specs.Record.{contactOk}
+use Rattle.contact.specs.Record.{totalIn, contactOk}
 use Rattle.contact.specs.Granted.{countedVolumes}
 use Rattle.contact.proofs.Spans.{Inside, spans-end, spans-inside, spans-rest}
 use Rattle.contact.proofs.Volumes.{Kept, Takes, kept-first, kept-rest, volumes-kept}
@@ -29,6 +30,7 @@ pub record Sound (c : Contact) : Type 0 where
   pub delays : (1 ≤ c .«delay_count») × (c .«delay_count» ≤ 16)
   pub run : Run (c .window .start .0) (take (c .«rate_count») (c .rates))
   pub close : closeOf (c .window .start .0) (take (c .«rate_count») (c .rates)) ≡ c .window .end .0
+  pub total : totalIn c ≤ volumeMax
   pub covered : spans delaySpan (c .window .start .0) (c .window .end .0) (take (c .«delay_count») (c .delays)) ≡ true
   pub brief : allOf delayOk (take (c .«delay_count») (c .delays)) ≡ true
 
@@ -66,6 +68,7 @@ sound c e =
       delays = (delays-some _ _ _ d, delays-most _ _ _ d);
       run = kept-run (c .window .start .0) (c .window .end .0) (w .short) (w .date) _ _ (2 ^ 38) (omega arith) (omega arith) k;
       close = spans-close _ _ _ (k .spanned);
+      total = k .total;
       covered = delays-span _ _ _ d;
       brief = delays-brief _ _ _ d;
     }

@@ -9,7 +9,7 @@ use Rattle.segmentation.specs.declared.VolumeSegment.{VolumeSegment}
 use Rattle.segmentation.specs.declared.DelaySegment.{DelaySegment}
 use Rattle.contact.specs.declared.Contact.{Contact}
 use Rattle.contact.specs.Segments.{rateSegment, wholeOf, noVolume, noDelay}
-use Rattle.contact.specs.Open.{openContact}
+use Rattle.contact.specs.Open.{totalOf, openContact}
 
 -- the rate segments and the delay segments of a contact
 abbrev pub ratesOf : Contact → List VolumeSegment
@@ -17,6 +17,10 @@ ratesOf c = take (c .«rate_count») (c .rates)
 
 abbrev pub delayList : Contact → List DelaySegment
 delayList c = take (c .«delay_count») (c .delays)
+
+-- the total volume of a contact, by the rates that it keeps
+abbrev pub totalIn : Contact → ℕ
+totalIn c = totalOf (map rateSegment (ratesOf c))
 
 -- an opening with the contact's own figures is done, its volumes are rates times lengths, and nothing is in an unused place
 unfoldable pub contactOk : Contact → Bool

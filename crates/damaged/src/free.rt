@@ -37,6 +37,8 @@ fn report(label: u8, r: FreeVolume) {
     let b = r.book(at, bundle, dates);
     let l = r.list();
     out::line(102, label, good, o.number, b.number, l.number);
+    let left = r.room();
+    out::figure(114, label, left.number, left.room.0);
 }
 
 fn fresh() -> FreeVolume {
@@ -86,25 +88,50 @@ fn delay(a: u64, b: u64, d: u64) -> DelaySegment {
     }
 }
 
-// The record with another free list of two places and a count.
+// What the first places of a list hold, so many of them as the count says: the room, so that each record breaks its own rule alone.
+fn room_of(g: VolumeSegment, h: VolumeSegment, count: usize) -> Volume {
+    if count == 0 {
+        return Volume(0);
+    }
+    if count == 1 {
+        return g.volume;
+    }
+    Volume(g.volume.0 % 1_000 + h.volume.0 % 1_000)
+}
+
+// The record with another free list of two places and a count, and the room of that.
 fn listing(r: FreeVolume, g: VolumeSegment, h: VolumeSegment, count: usize) -> FreeVolume {
     let contact = r.contact;
     let none = FreeList::nothing();
     let mut segments = none.segments;
     segments[0] = g;
     segments[1] = h;
+    let room = room_of(g, h, count);
     FreeVolume {
         contact: contact,
         free: FreeList {
             segments: segments,
             count: count,
         },
+        room: room,
+    }
+}
+
+// The record with another room.
+fn roomed(r: FreeVolume, room: u64) -> FreeVolume {
+    let contact = r.contact;
+    let free = r.free;
+    FreeVolume {
+        contact: contact,
+        free: free,
+        room: Volume(room),
     }
 }
 
 // The record with another window.
 fn windowed(r: FreeVolume, start: u64, end: u64) -> FreeVolume {
     let free = r.free;
+    let room = r.room;
     let c = r.contact;
     let rates = c.rates;
     let delays = c.delays;
@@ -120,12 +147,14 @@ fn windowed(r: FreeVolume, start: u64, end: u64) -> FreeVolume {
             delay_count: c.delay_count,
         },
         free: free,
+        room: room,
     }
 }
 
 // The record with other rate segments of two places and a count.
 fn rated(r: FreeVolume, g: VolumeSegment, h: VolumeSegment, count: usize) -> FreeVolume {
     let free = r.free;
+    let room = r.room;
     let c = r.contact;
     let window = c.window;
     let mut rates = c.rates;
@@ -141,12 +170,14 @@ fn rated(r: FreeVolume, g: VolumeSegment, h: VolumeSegment, count: usize) -> Fre
             delay_count: c.delay_count,
         },
         free: free,
+        room: room,
     }
 }
 
 // The record with other delay segments of two places and a count.
 fn delayed(r: FreeVolume, g: DelaySegment, h: DelaySegment, count: usize) -> FreeVolume {
     let free = r.free;
+    let room = r.room;
     let c = r.contact;
     let window = c.window;
     let rates = c.rates;
@@ -162,6 +193,7 @@ fn delayed(r: FreeVolume, g: DelaySegment, h: DelaySegment, count: usize) -> Fre
             delay_count: count,
         },
         free: free,
+        room: room,
     }
 }
 
@@ -189,6 +221,11 @@ fn free_lists(r: FreeVolume) {
     report(75, listing(r, whole, segment(1, 0, 0), 1));
     report(76, listing(r, whole, segment(0, 1, 0), 1));
     report(77, listing(r, whole, segment(0, 0, 1), 1));
+    // a room that is not the sum: one less, one more, none, the largest
+    report(52, roomed(r, 99));
+    report(53, roomed(r, 101));
+    report(54, roomed(r, 0));
+    report(55, roomed(r, 18_446_744_073_709_551_615));
 }
 
 fn contacts(r: FreeVolume) {

@@ -27,3 +27,22 @@ pub fn line(manager: u8, label: u8, good: bool, dry_run: u8, book: u8, list: u8)
     ];
     io::write_all(1, &text);
 }
+
+// A figure of three digits beside its call's number.
+pub fn figure(letter: u8, label: u8, number: u8, figure: u64) {
+    let hundreds = (figure / 100 % 10) as u8;
+    let rest = (figure % 100) as u8;
+    let text = [
+        letter,
+        label,
+        32,
+        tens(number),
+        digit(number),
+        32,
+        digit(hundreds),
+        tens(rest),
+        digit(rest),
+        10,
+    ];
+    io::write_all(1, &text);
+}

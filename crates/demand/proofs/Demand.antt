@@ -5,19 +5,24 @@ use mathlib.Core.Path.{_≡_, sym, ap, _∙_}
 use mathlib.Core.List.{List, []}
 use native.Mathlib.Omega.{arith}
 use lib.ListN.{length}
+use Rattle.units.specs.declared.Date.{Date}
 use Rattle.units.specs.declared.Interval.{Interval}
+use Rattle.units.specs.declared.TxData.{TxData}
+use Rattle.units.specs.declared.Bundle.{Bundle}
 use Rattle.units.proofs.Determined.{Met}
 use Rattle.segmentation.specs.declared.RateSegment.{RateSegment}
 use Rattle.segmentation.specs.declared.DelaySegment.{DelaySegment}
 use Rattle.contact.specs.Record.{ratesOf}
 use Rattle.seg.specs.declared.Opened.{Opened}
+use Rattle.seg.specs.declared.Booked.{Booked}
 use Rattle.seg.specs.Record.{recordOk}
+use Rattle.seg.specs.Book.{bookOf}
 use Rattle.seg.proofs.Kept.{opened-keeps}
 use Rattle.seg.proofs.FreeVolume.open.Reads as open-reads
 use Rattle.seg.proofs.FreeVolume.dry_run.Reads as dry-run-reads
 use Rattle.seg.proofs.FreeVolume.book.Reads as book-reads
 use Rattle.seg.proofs.FreeVolume.list.Reads as list-reads
-use Rattle.demand.specs.Calls.{State, Promises, Runs, done, dry-run, list, book}
+use Rattle.demand.specs.Calls.{State, Promises, Runs, done, dry-run, list, book, logged}
 use Rattle.demand.specs.Instants.{AllClear, Pairwise, AllIn, sizeSum, carried, Demand}
 use Rattle.demand.proofs.Held.{capSum, held-sum}
 use Rattle.demand.proofs.Keeping.{Keeping, book-keeping}
@@ -31,12 +36,17 @@ promised =
       list = λ r o. Met (list-reads.Post tt (r, tt)) o;
     }
 
+-- what every booking keeps, any calls keep
+module _ (P : State → Type 0) (step : (x : State) (at : Date) (b : Bundle) (d : TxData) (a : Booked) → a ≡ bookOf (x .manager) at b d → P x → P (record { manager = a .manager; log = logged b d a (x .log) })) where
+  pub run-all : (x y : State) → P x → Runs promised x y → P y
+  unfolding promised
+  run-all x y q done = q
+  run-all x y q (dry-run at b o p rest) = run-all x y q rest
+  run-all x y q (list o p rest) = run-all x y q rest
+  run-all x y q (book at b d a p rest) = run-all _ y (step x at b d a (p .1) q) rest
+
 run-keeps : (x y : State) → Keeping x → Runs promised x y → Keeping y
-unfolding promised
-run-keeps x y q done = q
-run-keeps x y q (dry-run at b o p rest) = run-keeps x y q rest
-run-keeps x y q (list o p rest) = run-keeps x y q rest
-run-keeps x y q (book at b d a p rest) = run-keeps _ y (book-keeping x q at b d a (p .1)) rest
+run-keeps = run-all Keeping (λ x at b d a is q. book-keeping x q at b d a is)
 
 fresh : (o : Opened) → recordOk (o .manager) ≡ true → Keeping (record { manager = o .manager; log = [] })
 unfolding AllClear Pairwise AllIn capSum sizeSum

@@ -27,9 +27,9 @@ use Rattle.held.specs.State.{keptFree, keptPriority, keptPolynomial, keptQueue}
 use Rattle.held.specs.Calls.{dryRunHeld, bookHeld, queueingAs}
 use Rattle.held.proofs.ByKind.{queueing-as}
 use Rattle.frames.specs.declared.frame.Frame.{Frame}
-use Rattle.frames.specs.declared.frame.Frame.the-variants.{Wrong, Free, Priority, Polynomial, Queue, Offer, Booking, Listing, Queueing}
+use Rattle.frames.specs.declared.frame.Frame.the-variants.{Wrong, Free, Priority, Polynomial, Queue, Offer, Booking, Listing, Queueing, Room}
 use Rattle.frames.specs.Opening.{noFrame, freeOpened, freeFrame, priorityOpened, priorityFrame, polynomialOpened, polynomialFrame, queueOpened, queueFrame}
-use Rattle.frames.specs.Calls.{offerFrame, bookFrame, enqueueFrame, dequeueFrame, listHeld, listFrame}
+use Rattle.frames.specs.Calls.{offerFrame, bookFrame, enqueueFrame, dequeueFrame, listHeld, listFrame, roomHeld, roomFrame}
 use Rattle.frames.specs.Step.{isLine, on, changeOf, showOf, changes, told, stepOf}
 use Rattle.frames.specs.Granted.{whenOf, kindFrame, frameOf, queueingOf}
 use Rattle.frames.proofs.Table.{or-no, frame-none, show-none}
@@ -44,6 +44,7 @@ byFrame Queue line h = let o : QueueOpened = queueOpened (queueOf line) in told 
 byFrame Offer line h = (offerLine (dryRunHeld h (dateAt line 1) (bundleAt line 9)), h)
 byFrame Booking line h = told (bookHeld h (dateAt line 1) (bundleAt line 9) (datesAt line 18))
 byFrame Listing line h = (listHeld h, h)
+byFrame Room line h = (roomHeld h, h)
 byFrame Queueing line h = told (queueingAs (h .kind) (queueingOf line (h .queue)) h)
 
 module _ (line : List ℕ) (h : Held) where
@@ -92,6 +93,10 @@ module _ (line : List ℕ) (h : Held) where
   unfolding changes showOf kindFrame on listFrame byFrame
   at-18 = fits (λ (text : List ℕ). (text, h)) (hasBytes line 1) Listing refl refl
 
+  at-21 : Agree 21
+  unfolding changes showOf kindFrame on roomFrame byFrame
+  at-21 = fits (λ (text : List ℕ). (text, h)) (hasBytes line 1) Room refl refl
+
   -- the queue manager's call of the kind that was read
   queueing : {b : Booked} → b ≡ queueingOf line (h .queue) → told (queueingAs (h .kind) b h) ≡ byFrame Queueing line h
   unfolding byFrame
@@ -107,12 +112,12 @@ module _ (line : List ℕ) (h : Held) where
 
   -- a kind that stands in neither table
   at-none : (byteAt line 0 ≡ 1 → ⊥) → (byteAt line 0 ≡ 2 → ⊥) → (byteAt line 0 ≡ 3 → ⊥) → (byteAt line 0 ≡ 4 → ⊥) → (byteAt line 0 ≡ 16 → ⊥)
-      → (byteAt line 0 ≡ 17 → ⊥) → (byteAt line 0 ≡ 18 → ⊥) → (byteAt line 0 ≡ 19 → ⊥) → (byteAt line 0 ≡ 20 → ⊥) → Agree (byteAt line 0)
+      → (byteAt line 0 ≡ 17 → ⊥) → (byteAt line 0 ≡ 18 → ⊥) → (byteAt line 0 ≡ 19 → ⊥) → (byteAt line 0 ≡ 20 → ⊥) → (byteAt line 0 ≡ 21 → ⊥) → Agree (byteAt line 0)
   unfolding changes byFrame
-  at-none a b d e f g i j l =
+  at-none a b d e f g i j l m =
       pick-no _ _ _ (or-no a (or-no b (or-no d (or-no e (or-no g (or-no j (ne-eqb _ _ l)))))))
-      ∙ ap (λ (text : List ℕ). (text, h)) (sym (show-none line h refl f i))
-      ∙ ap (λ (frame : Frame). byFrame frame line h) (frame-none line refl a b d e f g i j l)
+      ∙ ap (λ (text : List ℕ). (text, h)) (sym (show-none line h refl f i m))
+      ∙ ap (λ (frame : Frame). byFrame frame line h) (frame-none line refl a b d e f g i j l m)
 
   -- the kind is this number, or another
   by : (n : ℕ) → (byteAt line 0 ≡ n → Agree n) → ((byteAt line 0 ≡ n → ⊥) → Agree (byteAt line 0)) → Agree (byteAt line 0)
@@ -129,7 +134,8 @@ module _ (line : List ℕ) (h : Held) where
       (λ g. by 18 (λ q. at-18)
       (λ i. by 19 at-19
       (λ j. by 20 at-20
-      (λ l. at-none a b d e f g i j l)))))))))
+      (λ l. by 21 (λ q. at-21)
+      (λ m. at-none a b d e f g i j l m))))))))))
 
   pub sorted : stepOf line h ≡ byFrame (frameOf line) line h
   unfolding stepOf frameOf byFrame

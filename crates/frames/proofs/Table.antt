@@ -31,12 +31,12 @@ module _ (line : List ℕ) {k : ℕ} (read : k ≡ byteAt line 0) where
   pub frame-as : {n : ℕ} {r : Frame} → k ≡ n → r ≡ kindFrame n line → r ≡ kindFrame (byteAt line 0) line
   frame-as e q = q ∙ ap (λ (j : ℕ). kindFrame j line) (sym e ∙ read)
 
-  pub frame-none : (k ≡ 1 → ⊥) → (k ≡ 2 → ⊥) → (k ≡ 3 → ⊥) → (k ≡ 4 → ⊥) → (k ≡ 16 → ⊥) → (k ≡ 17 → ⊥) → (k ≡ 18 → ⊥) → (k ≡ 19 → ⊥) → (k ≡ 20 → ⊥)
+  pub frame-none : (k ≡ 1 → ⊥) → (k ≡ 2 → ⊥) → (k ≡ 3 → ⊥) → (k ≡ 4 → ⊥) → (k ≡ 16 → ⊥) → (k ≡ 17 → ⊥) → (k ≡ 18 → ⊥) → (k ≡ 19 → ⊥) → (k ≡ 20 → ⊥) → (k ≡ 21 → ⊥)
       → Wrong ≡ kindFrame (byteAt line 0) line
   unfolding kindFrame
-  frame-none a b d e f g i j l =
+  frame-none a b d e f g i j l m =
       frame-as refl
-      (sym (miss _ a (miss _ b (miss _ d (miss _ e (miss _ f (miss _ g (miss _ i (miss _ j (miss _ l refl))))))))))
+      (sym (miss _ a (miss _ b (miss _ d (miss _ e (miss _ f (miss _ g (miss _ i (miss _ j (miss _ l (miss _ m refl)))))))))))
 
 module _ (line : List ℕ) (h : Held) {k : ℕ} (read : k ≡ byteAt line 0) where
   of-number : {A : Type 0} (f : ℕ → A) {n : ℕ} {r : A} → k ≡ n → r ≡ f n → r ≡ f (byteAt line 0)
@@ -53,9 +53,9 @@ module _ (line : List ℕ) (h : Held) {k : ℕ} (read : k ≡ byteAt line 0) whe
   unfolding changeOf
   change-none a b d e f g i = change-as refl (sym (miss _ a (miss _ b (miss _ d (miss _ e (miss _ f (miss _ g (miss _ i refl))))))))
 
-  pub show-none : (k ≡ 16 → ⊥) → (k ≡ 18 → ⊥) → numberLine 255 ≡ showOf (byteAt line 0) line h
+  pub show-none : (k ≡ 16 → ⊥) → (k ≡ 18 → ⊥) → (k ≡ 21 → ⊥) → numberLine 255 ≡ showOf (byteAt line 0) line h
   unfolding showOf
-  show-none a b = show-as refl (sym (miss _ a (miss _ b refl)))
+  show-none a b d = show-as refl (sym (miss _ a (miss _ b (miss _ d refl))))
 
 -- the code's stretches: 1 to 4, 17, 19 to 20
 module _ {k b : ℕ} (read : k ≡ b) where

@@ -8,6 +8,8 @@ use Rattle.units.proofs.Logic.{unless-go, unless-stop}
 use Rattle.units.proofs.Choice.{pick-yes, pick-no}
 use Rattle.seg.specs.declared.Listing.{Listing as FreeListing}
 use Rattle.seg.specs.List.{listOf as listFree}
+use Rattle.seg.specs.declared.RoomLeft.{RoomLeft}
+use Rattle.seg.specs.Room.{roomAnswer}
 use Rattle.pseg.specs.declared.Listing.{Listing as PriorityListing}
 use Rattle.pseg.specs.List.{listOf as listPriority}
 use Rattle.poly_seg.specs.declared.Listing.{Listing as PolynomialListing}
@@ -17,13 +19,13 @@ use Rattle.legacy.specs.List.{listOf as listQueue}
 use Rattle.hex.specs.Digits.{byteAt}
 use Rattle.text.specs.Line.{written}
 use Rattle.answer.proofs.Stored.{Stored}
-use Rattle.answer.specs.Lines.{numberLine, volumesLine, bookingsLine, queuesLine}
+use Rattle.answer.specs.Lines.{numberLine, volumesLine, bookingsLine, queuesLine, roomLine}
 use Rattle.held.specs.declared.Kind.{Kind}
 use Rattle.held.specs.declared.Kind.the-variants.{Nothing, Free, Priority, Polynomial, Queue}
 use Rattle.held.specs.declared.Held.{Held}
 use Rattle.frames.specs.declared.Stepped.{Stepped}
 use Rattle.frames.specs.Opening.{noFrame}
-use Rattle.frames.specs.Calls.{listAs, listHeld}
+use Rattle.frames.specs.Calls.{listAs, listHeld, roomAs, roomHeld}
 use Rattle.frames.specs.Step.{isLine, changes, changeOf, showOf, told, stepOf, steppedOf}
 
 -- a text that stands at the front of the line does so under an equal one too
@@ -62,6 +64,14 @@ module _ (h : Held) where
   pub list-queue : {l : QueueListing} → h .kind ≡ Queue → l ≡ listQueue (h .queue) → queuesLine (l .number) (l .classes) (l .queues) ≡ listHeld h
   unfolding listAs
   list-queue e q = by-kind e (ap (λ (l : QueueListing). queuesLine (l .number) (l .classes) (l .queues)) q)
+
+  -- the room, by the kind
+  pub room-as : {k : Kind} {text : List ℕ} → h .kind ≡ k → text ≡ roomAs k h → text ≡ roomHeld h
+  room-as e q = q ∙ ap (λ (j : Kind). roomAs j h) (sym e)
+
+  pub room-free : {a : RoomLeft} → h .kind ≡ Free → a ≡ roomAnswer (h .free) → roomLine (a .number) (a .room) ≡ roomHeld h
+  unfolding roomAs
+  room-free e q = room-as e (ap (λ (a : RoomLeft). roomLine (a .number) (a .room)) q)
 
 -- the cases of a step
 module _ (line : List ℕ) (h : Held) where

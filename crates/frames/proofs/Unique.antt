@@ -42,6 +42,8 @@ use Rattle.frames.proofs.calls.dequeue.Kinds as dequeue-kinds
 use Rattle.frames.proofs.calls.dequeue.Reads as dequeue-reads
 use Rattle.frames.proofs.calls.list.Kinds as list-kinds
 use Rattle.frames.proofs.calls.list.Reads as list-reads
+use Rattle.frames.proofs.calls.room.Kinds as room-kinds
+use Rattle.frames.proofs.calls.room.Reads as room-reads
 use Rattle.frames.proofs.show.Kinds as show-kinds
 use Rattle.frames.proofs.show.Reads as show-reads
 use Rattle.frames.proofs.step.Kinds as step-kinds
@@ -112,6 +114,10 @@ module _ (κs : Lfts 2) where
   pub list-unique : (a : Dens κs list-kinds.ps)
       → Determined (Leaves (λ (s : AtExit (endedOf 2 list-kinds.ps list-kinds.r) κs). s .0 .now) (list-reads.Post κs a))
   list-unique a = named _ _ _
+
+  pub room-unique : (a : Dens κs room-kinds.ps)
+      → Determined (Leaves (λ (s : AtExit (endedOf 2 room-kinds.ps room-kinds.r) κs). s .0 .now) (room-reads.Post κs a))
+  room-unique a = named _ _ _
 
   pub show-unique : (a : Dens κs show-kinds.ps)
       → Determined (Leaves (λ (s : AtExit (endedOf 2 show-kinds.ps show-kinds.r) κs). s .0 .now) (show-reads.Post κs a))

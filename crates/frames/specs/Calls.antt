@@ -1,4 +1,4 @@
--- 01, "The trace program", frames 10 to 14: a line of another length, ff; else the manager whose record is held answers.
+-- 01, "The trace program", frames 10 to 15: a line of another length, ff; else the manager whose record is held answers.
 use Prim.Native.Nat.{ℕ}
 use mathlib.Core.List.{List}
 use Rattle.units.specs.declared.Offer.{Offer}
@@ -6,6 +6,8 @@ use Rattle.units.specs.Logic.{unless}
 use Rattle.units.specs.Answer.{refused}
 use Rattle.seg.specs.declared.Listing.{Listing as FreeListing}
 use Rattle.seg.specs.List.{listOf as listFree}
+use Rattle.seg.specs.declared.RoomLeft.{RoomLeft}
+use Rattle.seg.specs.Room.{roomAnswer}
 use Rattle.pseg.specs.declared.Listing.{Listing as PriorityListing}
 use Rattle.pseg.specs.List.{listOf as listPriority}
 use Rattle.poly_seg.specs.declared.Listing.{Listing as PolynomialListing}
@@ -13,7 +15,7 @@ use Rattle.poly_seg.specs.List.{listOf as listPolynomial}
 use Rattle.legacy.specs.declared.Listing.{Listing as QueueListing}
 use Rattle.legacy.specs.List.{listOf as listQueue}
 use Rattle.layout.specs.Fields.{dateAt, datesAt, bundleAt, hasBytes}
-use Rattle.answer.specs.Lines.{numberLine, volumesLine, bookingsLine, queuesLine}
+use Rattle.answer.specs.Lines.{numberLine, volumesLine, bookingsLine, queuesLine, roomLine}
 use Rattle.held.specs.declared.Kind.{Kind}
 use Rattle.held.specs.declared.Kind.the-variants.{Nothing, Free, Priority, Polynomial, Queue}
 use Rattle.held.specs.declared.Held.{Held}
@@ -52,3 +54,19 @@ listHeld h = listAs (h .kind) h
 -- 12, list
 unfoldable pub listFrame : List ℕ → Held → List ℕ
 listFrame line h = unless (hasBytes line 1) (numberLine 255) (listHeld h)
+
+-- with none open, 01; the room of a free-volume record (02, R-1); on another manager, 0c
+unfoldable pub roomAs : Kind → Held → List ℕ
+roomAs Nothing h = numberLine 1
+roomAs Free h = let a : RoomLeft = roomAnswer (h .free) in roomLine (a .number) (a .room)
+roomAs Priority h = numberLine 12
+roomAs Polynomial h = numberLine 12
+roomAs Queue h = numberLine 12
+
+-- the room of what is held
+abbrev pub roomHeld : Held → List ℕ
+roomHeld h = roomAs (h .kind) h
+
+-- 15, room
+unfoldable pub roomFrame : List ℕ → Held → List ℕ
+roomFrame line h = unless (hasBytes line 1) (numberLine 255) (roomHeld h)

@@ -13,7 +13,7 @@ use Rattle.layout.specs.Opening.{openingLength}
 use Rattle.layout.specs.Polynomial.{polynomialLength}
 use Rattle.layout.specs.Queue.{isQueue}
 use Rattle.frames.specs.declared.frame.Frame.{Frame}
-use Rattle.frames.specs.declared.frame.Frame.the-variants.{Wrong, Free, Priority, Polynomial, Queue, Offer, Booking, Listing, Queueing}
+use Rattle.frames.specs.declared.frame.Frame.the-variants.{Wrong, Free, Priority, Polynomial, Queue, Offer, Booking, Listing, Queueing, Room}
 use Rattle.frames.specs.Step.{isLine, on}
 
 -- the frame, if its line passed its test
@@ -32,7 +32,8 @@ kindFrame k line =
     (on k 18 (whenOf (hasBytes line 1) Listing)
     (on k 19 (whenOf (hasBytes line 10) Queueing)
     (on k 20 (whenOf (hasBytes line 10) Queueing)
-    Wrong))))))))
+    (on k 21 (whenOf (hasBytes line 1) Room)
+    Wrong)))))))))
 
 unfoldable pub frameOf : List ℕ → Frame
 frameOf line = unless (isLine line) Wrong (kindFrame (byteAt line 0) line)

@@ -11,7 +11,7 @@ use Rattle.held.specs.declared.Held.{Held}
 use Rattle.held.specs.declared.Done.{Done}
 use Rattle.frames.specs.declared.Stepped.{Stepped}
 use Rattle.frames.specs.Opening.{noFrame, freeFrame, priorityFrame, polynomialFrame, queueFrame}
-use Rattle.frames.specs.Calls.{offerFrame, bookFrame, listFrame, enqueueFrame, dequeueFrame}
+use Rattle.frames.specs.Calls.{offerFrame, bookFrame, listFrame, enqueueFrame, dequeueFrame, roomFrame}
 
 -- at most 2,048 digits, and nothing else
 unfoldable pub isLine : List ℕ → Bool
@@ -38,7 +38,8 @@ unfoldable pub showOf : ℕ → List ℕ → Held → List ℕ
 showOf k line h =
     on k 16 (offerLine (offerFrame line h))
     (on k 18 (listFrame line h)
-    (numberLine 255))
+    (on k 21 (roomFrame line h)
+    (numberLine 255)))
 
 -- the kinds of the first table
 unfoldable pub changes : ℕ → Bool

@@ -8,7 +8,7 @@ use units::Offer;
 ghost use mathlib.Core.Path.{_≡_};
 ghost use lib.ListN.{length};
 ghost use Rattle.text.specs.Line.{written};
-ghost use Rattle.frames.specs.Calls.{offerFrame, bookFrame, listHeld, listFrame, enqueueFrame, dequeueFrame};
+ghost use Rattle.frames.specs.Calls.{offerFrame, bookFrame, listHeld, listFrame, enqueueFrame, dequeueFrame, roomHeld, roomFrame};
 
 // Frame 10: time, size, priority.
 pub fn offer(line: &[u8], held: Held) -> Offer
@@ -106,4 +106,36 @@ pub fn list(out: &mut [u8; LINE], line: &[u8], held: Held) -> usize
         return answer::put_number(out, NO_FRAME);
     }
     put_list(out, held)
+}
+
+// The room of what is held.
+fn put_room(out: &mut [u8; LINE], held: Held) -> usize
+    ensures { λ r. ⌜ r ≡ length (roomHeld held) ⌝ }
+    ensures { λ _. ⌜ now (out .exit) ≡ written (now (out .entry)) 0 (roomHeld held) ⌝ }
+{
+    let kind = held.kind;
+    match kind {
+        Kind::Nothing => answer::put_number(out, units::refusal::RECORD),
+        Kind::Free => {
+            let r = held.free;
+            let a = r.room();
+            let number = a.number;
+            let room = a.room;
+            answer::put_room(out, number, room)
+        }
+        Kind::Priority => answer::put_number(out, units::refusal::SELF_UPDATE),
+        Kind::Polynomial => answer::put_number(out, units::refusal::SELF_UPDATE),
+        Kind::Queue => answer::put_number(out, units::refusal::SELF_UPDATE),
+    }
+}
+
+// Frame 15.
+pub fn room(out: &mut [u8; LINE], line: &[u8], held: Held) -> usize
+    ensures { λ r. ⌜ r ≡ length (roomFrame (now (line .entry)) held) ⌝ }
+    ensures { λ _. ⌜ now (out .exit) ≡ written (now (out .entry)) 0 (roomFrame (now (line .entry)) held) ⌝ }
+{
+    if !layout::has(line, 1) {
+        return answer::put_number(out, NO_FRAME);
+    }
+    put_room(out, held)
 }

@@ -14,6 +14,7 @@ pub enum Frame {
     Booking,
     Listing,
     Queueing,
+    Room,
 }
 
 // The frame, if its line passed its test.
@@ -40,6 +41,7 @@ pub fn of(line: &[u8]) -> Frame
         18 => when(layout::has(line, 1), Frame::Listing),
         19 => when(layout::has(line, 10), Frame::Queueing),
         20 => when(layout::has(line, 10), Frame::Queueing),
+        21 => when(layout::has(line, 1), Frame::Room),
         _ => Frame::Wrong,
     }
 }

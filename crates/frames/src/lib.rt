@@ -76,6 +76,7 @@ pub fn show(out: &mut [u8; LINE], line: &[u8], held: Held) -> usize
             answer::put_offer(out, offer)
         }
         18 => calls::list(out, line, held),
+        21 => calls::room(out, line, held),
         _ => answer::put_number(out, NO_FRAME),
     }
 }

@@ -2,10 +2,10 @@
 use Prim.Native.Nat.{ℕ, _<_, _≤_}
 use mathlib.Core.Bool.{true}
 use mathlib.Core.Path.{_≡_, refl, ap, _∙_}
-use mathlib.Core.List.{List}
+use mathlib.Core.List.{List, []}
 use mathlib.Core.Logic.{⊎-elim, _⊎_, inl, inr}
 use native.Mathlib.Omega.{arith}
-use lib.ListN.{length, drop, length-take}
+use lib.ListN.{length, drop, getD, length-take}
 use lib.Seq.{getD-take}
 use Rattle.units.specs.Logic.{both, allOf}
 use Rattle.units.proofs.Numbers.{le-or-lt}
@@ -15,7 +15,8 @@ use Rattle.contact.specs.Segments.{zeroVolume, noVolume}
 use Rattle.free_list.specs.declared.FreeList.{FreeList}
 use Rattle.free_list.specs.declared.Cut.{Cut}
 use Rattle.free_list.specs.Listed.{listOk}
-use Rattle.free_list.specs.Cut.{cutOf, listed, listIn, cutList}
+use Rattle.free_list.specs.Room.{roomOf}
+use Rattle.free_list.specs.Cut.{leftOf, cutOf, listed, listIn, cutAnswer, cutList}
 use Rattle.free_list.specs.Granted.{Inside}
 use Rattle.free_list.proofs.ListedLaws.{Listed, true-listed}
 use Rattle.free_list.proofs.Offered.{Offered, offered-at}
@@ -51,7 +52,12 @@ module _ (l : List VolumeSegment) (r : FreeList) (i s e v : ℕ) where
   abbrev left : List VolumeSegment
   left = cutOf l (listed r) i s e v
 
-  cut-cases : ((length left ≤ 64) × (cutList l r i s e v ≡ record { number = 0; list = listIn left })) ⊎ (cutList l r i s e v ≡ record { number = 10; list = r })
+  -- the segment that is cut
+  abbrev was : VolumeSegment
+  was = getD (listed r) i zeroVolume
+
+  pub cut-cases : ((length left ≤ 64) × (cutList l r i s e v ≡ cutAnswer 0 (listIn left) (was .volume .0) (roomOf (leftOf l was s e v []))))
+      ⊎ (cutList l r i s e v ≡ cutAnswer 10 r 0 0)
   cut-cases =
       ⊎-elim
       (λ (h : length left ≤ 64). inl (h, cut-done l r i s e v h))
@@ -75,7 +81,7 @@ module _ (l : List VolumeSegment) (r : FreeList) (i s e v : ℕ) where
     cut-zero =
         ⊎-elim
         (λ h. (h .0, ap (λ (x : Cut). x .list) (h .1)))
-        (λ (h : cutList l r i s e v ≡ record { number = 10; list = r }). absurd (omega (arith, ap (λ (x : Cut). x .number) h)))
+        (λ (h : cutList l r i s e v ≡ cutAnswer 10 r 0 0). absurd (omega (arith, ap (λ (x : Cut). x .number) h)))
         cut-cases
 
     pub cut-few : length left ≤ 64

@@ -1,4 +1,5 @@
 pub mod ListedLaws
+pub mod RoomLaws
 pub mod WalkLaws
 pub mod Shift
 pub mod Offered
@@ -6,5 +7,6 @@ pub mod OneLoop
 pub mod CutLaws
 pub mod Places
 pub mod CutList
+pub mod CutRoom
 pub mod Unique
 pub mod ByChoice

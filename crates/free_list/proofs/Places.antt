@@ -14,10 +14,13 @@ use Rattle.units.proofs.Logic.{both-fst, both-snd, unless-go, unless-stop}
 use Rattle.units.proofs.Arrays.{take-padded}
 use Rattle.units.proofs.Padded.{padded-is, padded-set}
 use Rattle.segmentation.specs.declared.VolumeSegment.{VolumeSegment}
+use Rattle.segmentation.specs.Capacity.{capacity}
 use Rattle.contact.specs.Segments.{zeroVolume, noVolume}
 use Rattle.free_list.specs.declared.FreeList.{FreeList}
-use Rattle.free_list.specs.Cut.{restOf, stretchOf, leftOf, cutOf, listed, listIn, cutList}
+use Rattle.free_list.specs.Room.{roomOf}
+use Rattle.free_list.specs.Cut.{restOf, stretchOf, leftOf, cutOf, listed, listIn, cutAnswer, cutList}
 use Rattle.free_list.specs.Granted.{Inside, insertOf, leftIn}
+use Rattle.free_list.proofs.RoomLaws.{room-one, room-two}
 use Rattle.free_list.proofs.CutLaws.{left-start, left-flat, left-two}
 
 zero-segment : (a b v : ℕ) → a ≡ 0 → b ≡ 0 → v ≡ 0
@@ -86,16 +89,17 @@ module _ (l f : List VolumeSegment) (i s e v : ℕ) (lt : i < length f) where
 
 -- The two answers of a cut.
 module _ (l : List VolumeSegment) (r : FreeList) (i s e v : ℕ) where
-  pub cut-done : length (cutOf l (listed r) i s e v) ≤ 64 → cutList l r i s e v ≡ record { number = 0; list = listIn (cutOf l (listed r) i s e v) }
+  pub cut-done : length (cutOf l (listed r) i s e v) ≤ 64
+      → cutList l r i s e v ≡ cutAnswer 0 (listIn (cutOf l (listed r) i s e v)) (getD (listed r) i zeroVolume .volume .0) (roomOf (leftOf l (getD (listed r) i zeroVolume) s e v []))
   unfolding cutList
   cut-done h = unless-go _ _ _ (le-leb _ _ h)
 
-  pub cut-full : 64 < length (cutOf l (listed r) i s e v) → cutList l r i s e v ≡ record { number = 10; list = r }
+  pub cut-full : 64 < length (cutOf l (listed r) i s e v) → cutList l r i s e v ≡ cutAnswer 10 r 0 0
   unfolding cutList
   cut-full h = unless-stop _ _ _ (lt-leb _ _ h)
 
-made : (a b : List VolumeSegment) (n m : ℕ) → a ≡ b → n ≡ m → leftIn a n ≡ leftIn b m
-made a b n m h k = rw (h, k)
+made : (a b : List VolumeSegment) (n m off on to : ℕ) → a ≡ b → n ≡ m → on ≡ to → leftIn a n off on ≡ leftIn b m off to
+made a b n m off on to h k j = rw (h, k, j)
 
 -- The stores of a cut in a record are the cut of its list.
 module _ (l : List VolumeSegment) (r : FreeList) (i s e v : ℕ) (size : length (r .segments) ≡ 64) (q : Inside r i v) where
@@ -117,44 +121,59 @@ module _ (l : List VolumeSegment) (r : FreeList) (i s e v : ℕ) (size : length 
   here : getD (listed r) i zeroVolume ≡ getD (r .segments) i zeroVolume
   here = getD-take (r .count) (r .segments) i zeroVolume at
 
-  stored-is : (x : VolumeSegment) → cutOf l (listed r) i s e v ≡ take i (listed r) ++ (x ∷ drop (suc i) (listed r))
-      → leftIn (set (r .segments) i x) (r .count) ≡ cutList l r i s e v
-  stored-is x h =
+  -- the segment that is cut, and the room of what is left of it
+  abbrev was : VolumeSegment
+  was = getD (listed r) i zeroVolume
+
+  abbrev put : ℕ
+  put = roomOf (leftOf l was s e v [])
+
+  stored-is : (x : VolumeSegment) (on : ℕ) → cutOf l (listed r) i s e v ≡ take i (listed r) ++ (x ∷ drop (suc i) (listed r)) → on ≡ put
+      → leftIn (set (r .segments) i x) (r .count) (was .volume .0) on ≡ cutList l r i s e v
+  stored-is x on h j =
       let len : length (cutOf l (listed r) i s e v) ≡ length (listed r) = ap length h ∙ one-length l (listed r) i s e v in-list x in
-      made _ _ _ _ (ap (λ (a : List VolumeSegment). set a i x) whole ∙ padded-set 64 zeroVolume (listed r) i x in-list ∙ ap (padded 64 zeroVolume) (sym h))
-      (omega (arith, len, listed-length))
+      made _ _ _ _ _ _ _ (ap (λ (a : List VolumeSegment). set a i x) whole ∙ padded-set 64 zeroVolume (listed r) i x in-list ∙ ap (padded 64 zeroVolume) (sym h))
+      (omega (arith, len, listed-length)) j
       ∙ sym (cut-done l r i s e v (omega (arith, len, listed-length, few)))
 
-  two-is : (x y : VolumeSegment) → r .count < 64 → cutOf l (listed r) i s e v ≡ take i (listed r) ++ (x ∷ (y ∷ drop (suc i) (listed r)))
-      → length (cutOf l (listed r) i s e v) ≡ suc (length (listed r))
-      → leftIn (set (insertOf (r .segments) (r .count) (i + 1) y) i x) (r .count + 1) ≡ cutList l r i s e v
-  two-is x y room h len =
+  two-is : (x y : VolumeSegment) (on : ℕ) → r .count < 64 → cutOf l (listed r) i s e v ≡ take i (listed r) ++ (x ∷ (y ∷ drop (suc i) (listed r)))
+      → length (cutOf l (listed r) i s e v) ≡ suc (length (listed r)) → on ≡ put
+      → leftIn (set (insertOf (r .segments) (r .count) (i + 1) y) i x) (r .count + 1) (was .volume .0) on ≡ cutList l r i s e v
+  two-is x y on room h len j =
       let two : set (insertOf (r .segments) (r .count) (i + 1) y) i x ≡ padded 64 zeroVolume (cutOf l (listed r) i s e v)
       = ap (λ (a : List VolumeSegment). set (insertOf a (r .count) (i + 1) y) i x) whole
       ∙ ap (λ (n : ℕ). set (insertOf (padded 64 zeroVolume (listed r)) n (i + 1) y) i x) (sym listed-length)
       ∙ padded-two 64 zeroVolume (listed r) i x y in-list (omega (arith, listed-length))
       ∙ ap (padded 64 zeroVolume) (sym h) in
-      made _ _ _ _ two (omega (arith, len, listed-length))
+      made _ _ _ _ _ _ _ two (omega (arith, len, listed-length)) j
       ∙ sym (cut-done l r i s e v (omega (arith, len, listed-length)))
 
   abbrev seg : VolumeSegment
   seg = getD (r .segments) i zeroVolume
 
-  pub book-start : seg .start .0 ≡ s → leftIn (set (r .segments) i (restOf seg e v)) (r .count) ≡ cutList l r i s e v
-  book-start h = rw (← here) (stored-is _ (cut-start l (listed r) i s e v in-list (rw here h)))
+  pub book-start : seg .start .0 ≡ s → leftIn (set (r .segments) i (restOf seg e v)) (r .count) (seg .volume .0) (seg .volume .0 - v) ≡ cutList l r i s e v
+  book-start h =
+      let k : was .start .0 ≡ s = rw here h in
+      rw (← here) (stored-is _ _ (cut-start l (listed r) i s e v in-list k) (sym (ap roomOf (left-start l was s e v [] k) ∙ room-one _)))
 
   module _ (h : seg .start .0 ≡ s → ⊥) where
-    pub book-flat : s ≡ e → leftIn (set (r .segments) i (stretchOf l (seg .start .0) s)) (r .count) ≡ cutList l r i s e v
-    book-flat k = rw (← here) (stored-is _ (cut-flat l (listed r) i s e v in-list (rw here h) k))
+    within : was .start .0 ≡ s → ⊥
+    within = rw here h
+
+    pub book-flat : s ≡ e → leftIn (set (r .segments) i (stretchOf l (seg .start .0) s)) (r .count) (seg .volume .0) (capacity l (seg .start .0) s) ≡ cutList l r i s e v
+    book-flat k = rw (← here) (stored-is _ _ (cut-flat l (listed r) i s e v in-list within k) (sym (ap roomOf (left-flat l was s e v [] within k) ∙ room-one _)))
 
     module _ (k : s ≡ e → ⊥) where
       two-length : length (cutOf l (listed r) i s e v) ≡ suc (length (listed r))
-      two-length = cut-two-length l (listed r) i s e v in-list (rw here h) k
+      two-length = cut-two-length l (listed r) i s e v in-list within k
 
-      pub book-full : 64 ≤ r .count → record { number = 10; list = r } ≡ cutList l r i s e v
+      pub book-full : 64 ≤ r .count → cutAnswer 10 r 0 0 ≡ cutList l r i s e v
       book-full full = sym (cut-full l r i s e v (omega (arith, two-length, listed-length)))
 
       pub book-two : r .count < 64
           → leftIn (set (insertOf (r .segments) (r .count) (i + 1) (stretchOf l e (seg .end .0))) i (stretchOf l (seg .start .0) s)) (r .count + 1)
+          (seg .volume .0) (capacity l (seg .start .0) s + capacity l e (seg .end .0))
           ≡ cutList l r i s e v
-      book-two room = rw (← here) (two-is _ _ room (cut-two l (listed r) i s e v in-list (rw here h) k) two-length)
+      book-two room =
+          rw (← here)
+          (two-is _ _ _ room (cut-two l (listed r) i s e v in-list within k) two-length (sym (ap roomOf (left-two l was s e v [] within k) ∙ room-two _ _)))

@@ -19,6 +19,7 @@ use Rattle.free_list.proofs.Chosen.refused.Reads as refused-reads
 use Rattle.free_list.proofs.FreeList.nothing.Reads as nothing-reads
 use Rattle.free_list.proofs.FreeList.whole.Reads as whole-reads
 use Rattle.free_list.proofs.FreeList.cut.Reads as cut-reads
+use Rattle.free_list.proofs.changed.Reads as changed-reads
 use Rattle.free_list.proofs.walk.begin.Reads as begin-reads
 use Rattle.free_list.proofs.walk.piece.Reads as piece-reads
 use Rattle.free_list.proofs.walk.turn.Reads as turn-reads
@@ -58,6 +59,9 @@ pub cut-unique : (self : FreeList) (rates : List VolumeSegment) (m place : ℕ) 
     → Determined (cut-reads.Post tt (self, (rates, (m, (place, (send, (size, tt)))))))
 cut-unique self rates m place send size r q x y f g = f ∙ sym g
 
+pub changed-unique : (room off on : Volume) → Determined (changed-reads.Post tt (room, (off, (on, tt))))
+changed-unique room off on r q x y f g = ap (λ (n : ℕ). record { 0 = n }) (f ∙ sym g)
+
 pub begin-unique : (s : VolumeSegment) (low : Date) → Determined (begin-reads.Post tt (s, (low, tt)))
 begin-unique s low r q x y f g = f ∙ sym g
 
@@ -70,6 +74,6 @@ turn-unique w s t to r q x y f g = f ∙ sym g
 pub next-unique : (place m : ℕ) → Determined (next-reads.Post tt (place, (m, tt)))
 next-unique place m r q x y f g = f ∙ sym g
 
-pub listed-ok-unique : (rates : List VolumeSegment) (m : ℕ) (free : List VolumeSegment) (n : ℕ) (window : Interval)
-    → Determined (listed-ok-reads.Post tt (rates, (m, (free, (n, (window, tt))))))
-listed-ok-unique rates m free n window r q x y f g = f ∙ sym g
+pub listed-ok-unique : (rates : List VolumeSegment) (m : ℕ) (free : List VolumeSegment) (n : ℕ) (window : Interval) (room : Volume)
+    → Determined (listed-ok-reads.Post tt (rates, (m, (free, (n, (window, (room, tt)))))))
+listed-ok-unique rates m free n window room r q x y f g = f ∙ sym g

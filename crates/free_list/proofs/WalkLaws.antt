@@ -23,8 +23,10 @@ use Rattle.free_list.specs.declared.walk.Walk.{Walk}
 use Rattle.free_list.specs.declared.walk.Taken.{Taken}
 use Rattle.free_list.specs.declared.walk.Taken.the-variants.{Go, No}
 use Rattle.free_list.specs.Listed.{segmentOk, listOk}
+use Rattle.free_list.specs.Room.{roomOf}
 use Rattle.free_list.specs.Granted.{Window, WalkOk, startOf, foundOf, onOf, doneOf, turnOf, nextOf}
 use Rattle.free_list.proofs.ListedLaws.{segment-early, segment-back, segment-late, segment-is, list-stop, list-go, list-none}
+use Rattle.free_list.proofs.RoomLaws.{room-none, room-cons}
 
 -- The ways of a turn.
 pick-cases : (P : Taken → Type 0) (x y : Taken) (a b : ℕ) → (a < b → P x) → (b ≤ a → P y) → P (pick (ltb a b) x y)
@@ -181,6 +183,8 @@ pub record Walking (l : List VolumeSegment) (f : List VolumeSegment) (from hi n 
   pub few : w .place < 16
   pub small : w .sum .0 ≤ w .place * 2 ^ 38
   pub same : listOk l from hi f ≡ listOk l (w .low .0) hi (drop (w .i) f)
+  pub bound : w .room .0 ≤ w .i * 2 ^ 42
+  pub sums : roomOf f ≡ w .room .0 + roomOf (drop (w .i) f)
   pub stands : Stands l w
   pub ahead : (g : VolumeSegment) → drop (w .i) f ≡ g ∷ drop (w .i + 1) f → w .low .0 ≤ g .start .0 → g .start .0 ≤ g .end .0
       → (w .start .0 ≤ g .end .0) × (w .sum .0 ≡ capacity l (g .start .0) (w .start .0))
@@ -193,11 +197,16 @@ Answer l f from hi n w No = listOk l from hi f ≡ false
 module _ (l : List VolumeSegment) (f : List VolumeSegment) (from hi n : ℕ) (w : Walk) (q : Walking l f from hi n w) where
   pub walk-ok : w .i < n → n ≤ 64 → WalkOk w
   walk-ok lt le =
-      record { forth = forth l w (q .stands); small = q .small; few = q .few; listed = omega arith; carries = carries l w (q .stands) }
+      record { forth = forth l w (q .stands); small = q .small; few = q .few; listed = omega arith; carries = carries l w (q .stands); bound = q .bound }
 
   pub walk-end : length f ≤ w .i → listOk l from hi f ≡ true
   walk-end h =
       q .same ∙ ap (λ (x : List VolumeSegment). listOk l (w .low .0) hi x) (drop-of-length-le f h) ∙ list-none l (w .low .0) hi
+
+  pub walk-room : length f ≤ w .i → roomOf f ≡ w .room .0
+  walk-room h =
+      let e : roomOf (drop (w .i) f) ≡ 0 = ap roomOf (drop-of-length-le f h) ∙ room-none in
+      omega (arith, q .sums, e)
 
   module _ (lt : w .i < n) (g s : VolumeSegment) (here : drop (w .i) f ≡ g ∷ drop (w .i + 1) f) where
     refuse : segmentOk l (w .low .0) hi g ≡ false → listOk l from hi f ≡ false
@@ -224,6 +233,8 @@ module _ (l : List VolumeSegment) (f : List VolumeSegment) (from hi n : ℕ) (w 
               few = omega arith;
               small = omega (arith, pc, q .small);
               same = q .same;
+              bound = q .bound;
+              sums = q .sums;
               stands = on .0;
               ahead = λ k e a b.
                   let same-head : g ≡ k = cc (here, e) in
@@ -241,12 +252,16 @@ module _ (l : List VolumeSegment) (f : List VolumeSegment) (from hi n : ℕ) (w 
       go-done h4 h5 =
           let fd : foundOf w g ≡ capacity l (g .start .0) (g .end .0) = found (g .end .0) (omega arith) in
           let fits : segmentOk l (w .low .0) hi g ≡ true = segment-is l (w .low .0) hi g h1 h2 h3 ∙ le-leb _ _ (rw fd at h5) in
+          let pc = piece-small l w (q .stands) (max (g .start .0) (w .start .0)) (min (g .end .0) (w .end .0)) (omega arith) (omega arith) in
+          let on : roomOf (drop (w .i) f) ≡ g .volume .0 + roomOf (drop (w .i + 1) f) = ap roomOf here ∙ room-cons g _ in
           let a = q .ahead g here h1 h2 in (
             record {
               le = omega arith;
               few = q .few;
               small = omega arith;
               same = q .same ∙ ap (λ (x : List VolumeSegment). listOk l (w .low .0) hi x) here ∙ list-go l (w .low .0) hi g _ fits;
+              bound = omega (arith, q .bound, q .small, q .few, pc);
+              sums = omega (arith, q .sums, on);
               stands = record {
                 seg = q .stands .seg;
                 ok = q .stands .ok;
@@ -286,6 +301,8 @@ walk-first l k f s low hi n w e win is =
       few = omega arith;
       small = omega arith;
       same = refl;
+      bound = omega arith;
+      sums = omega arith;
       stands = record {
         seg = s;
         ok = run .1;

@@ -2,7 +2,7 @@
 use Prim.Native.Nat.{ℕ, zero, suc, _-_}
 use mathlib.Core.List.{List, [], _∷_}
 use lib.Dec.{leb, eqb}
-use lib.ListN.{length, take}
+use lib.ListN.{length, take, getD}
 use Rattle.units.specs.declared.Interval.{Interval}
 use Rattle.units.specs.Logic.{pick, unless}
 use Rattle.units.specs.Arrays.{padded}
@@ -11,6 +11,7 @@ use Rattle.segmentation.specs.Capacity.{capacity}
 use Rattle.contact.specs.Segments.{zeroVolume}
 use Rattle.free_list.specs.declared.FreeList.{FreeList}
 use Rattle.free_list.specs.declared.Cut.{Cut}
+use Rattle.free_list.specs.Room.{roomOf}
 
 -- booking at the segment's start: start becomes the end sent, volume falls by the size
 abbrev pub restOf : VolumeSegment → ℕ → ℕ → VolumeSegment
@@ -45,8 +46,13 @@ listIn f = record { segments = padded 64 zeroVolume f; count = length f }
 abbrev pub wholeWindow : Interval → ℕ → VolumeSegment
 wholeWindow w total = record { start = w .start; end = w .end; volume = record { 0 = total } }
 
+-- a cut's answer, with what it takes off the listed volumes and what it puts in
+abbrev pub cutAnswer : ℕ → FreeList → ℕ → ℕ → Cut
+cutAnswer n f off on = record { number = n; list = f; off = record { 0 = off }; on = record { 0 = on } }
+
 -- refusal 10: the booking would leave more than 64 listed segments
 unfoldable pub cutList : List VolumeSegment → FreeList → ℕ → ℕ → ℕ → ℕ → Cut
 cutList l r i s e v =
-    unless (leb (length (cutOf l (listed r) i s e v)) 64) (record { number = 10; list = r })
-    (record { number = 0; list = listIn (cutOf l (listed r) i s e v) })
+    let g = getD (listed r) i zeroVolume in
+    unless (leb (length (cutOf l (listed r) i s e v)) 64) (cutAnswer 10 r 0 0)
+    (cutAnswer 0 (listIn (cutOf l (listed r) i s e v)) (g .volume .0) (roomOf (leftOf l g s e v [])))

@@ -22,6 +22,8 @@ use Rattle.free_list.specs.declared.Cut.{Cut}
 use Rattle.free_list.specs.declared.Chosen.{Chosen}
 use Rattle.free_list.specs.declared.Found.{Found}
 use Rattle.free_list.specs.declared.Found.the-variants.{At, None}
+use Rattle.free_list.specs.Cut.{listed, cutAnswer, cutList}
+use Rattle.free_list.specs.Room.{roomOf}
 use Rattle.free_list.specs.Offer.{Rule, endFrom}
 use Rattle.free_list.specs.declared.walk.Walk.{Walk}
 use Rattle.free_list.specs.declared.walk.Taken.{Taken}
@@ -43,8 +45,19 @@ pub record Inside (r : FreeList) (place v : ℕ) : Type 0 where
 abbrev pub insertOf : {A : Type 0} → List A → ℕ → ℕ → A → List A
 insertOf l n i a = take i l ++ (a ∷ (drop i (take n l) ++ drop (n + 1) l))
 
-abbrev pub leftIn : List VolumeSegment → ℕ → Cut
-leftIn l n = record { number = 0; list = record { segments = l; count = n } }
+-- the room is the list's, and fits when the segment at the place is cut
+pub record Roomy (l : List VolumeSegment) (r : FreeList) (place s e v room : ℕ) : Type 0 where
+  pub is : room ≡ roomOf (listed r)
+  pub small : roomOf (listed (cutList l r place s e v .list)) < 2 ^ 64
+
+-- what a cut takes off and puts in makes the room that of its list
+pub record Changes (room : ℕ) (x : Cut) : Type 0 where
+  pub low : x .off .0 ≤ room
+  pub is : room - x .off .0 + x .on .0 ≡ roomOf (listed (x .list))
+  pub small : roomOf (listed (x .list)) < 2 ^ 64
+
+abbrev pub leftIn : List VolumeSegment → ℕ → ℕ → ℕ → Cut
+leftIn l n off on = cutAnswer 0 (record { segments = l; count = n }) off on
 
 -- a dry run that finds nothing
 abbrev pub noneChosen : ℕ → Chosen
@@ -70,10 +83,11 @@ pub record WalkOk (w : Walk) : Type 0 where
   pub few : w .place < 16
   pub listed : w .i < 64
   pub carries : w .rate .0 * (w .end .0 - w .start .0) ≤ 2 ^ 38
+  pub bound : w .room .0 ≤ w .i * 2 ^ 42
 
 abbrev pub startOf : VolumeSegment → Date → Walk
 startOf s low =
-    record { i = 0; low = low; sum = record { 0 = 0 }; place = 0; start = s .start; end = s .end; rate = record { 0 = rateOf s } }
+    record { i = 0; low = low; room = record { 0 = 0 }; sum = record { 0 = 0 }; place = 0; start = s .start; end = s .end; rate = record { 0 = rateOf s } }
 
 -- the capacity found with the rate segment in hand
 abbrev pub foundOf : Walk → VolumeSegment → ℕ
@@ -85,6 +99,7 @@ onOf w g s =
     record {
       i = w .i;
       low = w .low;
+      room = w .room;
       sum = record { 0 = foundOf w g };
       place = w .place + 1;
       start = s .start;
@@ -98,6 +113,7 @@ doneOf w g =
     record {
       i = w .i + 1;
       low = record { 0 = g .end .0 + 1 };
+      room = record { 0 = w .room .0 + g .volume .0 };
       sum = record { 0 = 0 };
       place = w .place;
       start = w .start;

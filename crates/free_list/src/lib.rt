@@ -9,7 +9,7 @@ use units::Volume;
 ghost use mathlib.Core.Path.{_≡_};
 ghost use mathlib.Core.Bool.{true};
 ghost use mathlib.Core.List.{List, [], _∷_};
-ghost use Prim.Native.Nat.{_<_, _≤_};
+ghost use Prim.Native.Nat.{_+_, _-_, _<_, _≤_, _^_};
 ghost use lib.ListN.{take, drop};
 ghost use Rattle.units.specs.Logic.{allOf};
 ghost use Rattle.segmentation.specs.Granted.{Run, Runs, Covers};
@@ -45,11 +45,13 @@ pub struct Chosen {
     pub place: usize,
 }
 
-// A cut's answer: 0 and the list that is left, or 10 and the list as it came.
+// A cut's answer: 0 and the list that is left, or 10 and the list as it came; what it took off the listed volumes, and what it put in.
 #[repr(C)]
 pub struct Cut {
     pub number: u8,
     pub list: FreeList,
+    pub off: Volume,
+    pub on: Volume,
 }
 
 impl Chosen {
@@ -191,6 +193,14 @@ pub fn stretch(
     }
 }
 
+// The room after a cut: off goes what it took, on comes what it put in.
+pub fn changed(room: Volume, off: Volume, on: Volume) -> Volume
+    requires { ⌜ off .0 ≤ room .0 ⌝ ∗ ⌜ room .0 - off .0 + on .0 < 2 ^ 64 ⌝ }
+    ensures { λ r. ⌜ r .0 ≡ room .0 - off .0 + on .0 ⌝ }
+{
+    Volume(room.0 - off.0 + on.0)
+}
+
 impl FreeList {
     // A list with nothing in it.
     pub fn nothing() -> FreeList
@@ -228,8 +238,13 @@ impl FreeList {
     }
 
     // A list after a cut.
-    fn left(segments: [VolumeSegment; FreeList::COUNT_MAX], count: usize) -> Cut
-        ensures { λ r. ⌜ r ≡ leftIn segments count ⌝ }
+    fn left(
+        segments: [VolumeSegment; FreeList::COUNT_MAX],
+        count: usize,
+        off: Volume,
+        on: Volume,
+    ) -> Cut
+        ensures { λ r. ⌜ r ≡ leftIn segments count (off .0) (on .0) ⌝ }
     {
         Cut {
             number: 0,
@@ -237,6 +252,8 @@ impl FreeList {
                 segments: segments,
                 count: count,
             },
+            off: off,
+            on: on,
         }
     }
 
@@ -259,24 +276,31 @@ impl FreeList {
         let g = a[place];
         let start = g.start;
         let end = g.end;
+        let off = g.volume;
         if start.0 == from.0 {
-            a[place] = rest(g, to, size);
-            return FreeList::left(a, n);
+            let kept = rest(g, to, size);
+            a[place] = kept;
+            let on = kept.volume;
+            return FreeList::left(a, n, off, on);
         }
         let before = stretch(rates, m, start, from);
+        let part = before.volume;
         if from.0 == to.0 {
             a[place] = before;
-            return FreeList::left(a, n);
+            return FreeList::left(a, n, off, part);
         }
         if FreeList::COUNT_MAX <= n {
             return Cut {
                 number: units::refusal::FULL,
                 list: self,
+                off: Volume(0),
+                on: Volume(0),
             };
         }
         let after = stretch(rates, m, to, end);
+        let on = Volume(part.0 + after.volume.0);
         let mut b = insert(a, n, place + 1, after);
         b[place] = before;
-        FreeList::left(b, n + 1)
+        FreeList::left(b, n + 1, off, on)
     }
 }

@@ -7,16 +7,20 @@ use units::Rate;
 use units::Volume;
 ghost use mathlib.Core.Path.{_≡_};
 ghost use Prim.Native.Nat.{_-_, _*_, _≤_, _<_, _^_, min, max};
+ghost use lib.Dec.{eqb};
 ghost use lib.ListN.{take};
+ghost use Rattle.units.specs.Logic.{both};
 ghost use Rattle.segmentation.specs.Granted.{SegOk};
 ghost use Rattle.free_list.specs.Listed.{listOk};
+ghost use Rattle.free_list.specs.Room.{roomOf};
 ghost use Rattle.free_list.specs.Granted.{Window, WalkOk, startOf, turnOf, nextOf};
 
-// The place in the free list, the least start allowed there, the capacity found so far; the rate segment in hand.
+// The place in the free list, the least start allowed there, the room before it, the capacity found so far; the rate segment in hand.
 #[repr(C)]
 pub struct Walk {
     pub i: usize,
     pub low: Date,
+    pub room: Volume,
     pub sum: Volume,
     pub place: usize,
     pub start: Date,
@@ -39,6 +43,7 @@ pub fn begin(s: VolumeSegment, low: Date) -> Walk
     Walk {
         i: 0,
         low: low,
+        room: Volume(0),
         sum: Volume(0),
         place: 0,
         start: start,
@@ -72,6 +77,7 @@ pub fn turn(w: Walk, g: VolumeSegment, s: VolumeSegment, to: Date) -> Taken
     let v = g.volume;
     let i = w.i;
     let low = w.low;
+    let room = w.room;
     let place = w.place;
     let start = w.start;
     let end = w.end;
@@ -93,6 +99,7 @@ pub fn turn(w: Walk, g: VolumeSegment, s: VolumeSegment, to: Date) -> Taken
         return Taken::Go(Walk {
             i: i,
             low: low,
+            room: room,
             sum: Volume(now),
             place: place + 1,
             start: c,
@@ -106,6 +113,7 @@ pub fn turn(w: Walk, g: VolumeSegment, s: VolumeSegment, to: Date) -> Taken
     Taken::Go(Walk {
         i: i + 1,
         low: Date(b.0 + 1),
+        room: Volume(room.0 + v.0),
         sum: Volume(0),
         place: place,
         start: start,
@@ -123,16 +131,17 @@ pub fn next(place: usize, m: usize) -> usize
     if k < m { k } else { place }
 }
 
-// Does the free list keep its rules: in the window, in order, each volume within the exact capacity?
+// Does the free list keep its rules: in the window, in order, each volume within the exact capacity? And is the room its sum?
 pub fn listed_ok(
     rates: [VolumeSegment; RateSegment::COUNT_MAX],
     m: usize,
     free: [VolumeSegment; crate::FreeList::COUNT_MAX],
     n: usize,
     window: Interval,
+    room: Volume,
 ) -> bool
     requires { ⌜ (1 ≤ m) × (m ≤ 16) ⌝ ∗ ⌜ n ≤ 64 ⌝ ∗ ⌜ Window (take m rates) (window .start .0) (window .end .0) ⌝ }
-    ensures { λ r. ⌜ r ≡ listOk (take m rates) (window .start .0) (window .end .0) (take n free) ⌝ }
+    ensures { λ r. ⌜ r ≡ both (listOk (take m rates) (window .start .0) (window .end .0) (take n free)) (eqb (room .0) (roomOf (take n free))) ⌝ }
 {
     let hi = window.end;
     let low = window.start;
@@ -142,7 +151,8 @@ pub fn listed_ok(
     let mut j: usize = 0;
     loop {
         if n <= i {
-            break true;
+            let sum = w.room;
+            break room.0 == sum.0;
         }
         let g = free[i];
         let p = next(j, m);

@@ -6,6 +6,8 @@ use denote.Triple.Clauses.{AtExit}
 use contract.Lifetimes.{Lfts}
 use Rattle.units.proofs.Determined.{Determined}
 use Rattle.free_list.specs.declared.FreeList.{FreeList}
+use Rattle.free_list.specs.Cut.{listed}
+use Rattle.free_list.specs.Room.{roomOf}
 use Rattle.words.specs.Words.{volumesIn}
 use Rattle.words.proofs.Numbers.{same-numbers}
 use Rattle.words.proofs.Unique.{Leaves}
@@ -35,19 +37,24 @@ module _ (κs : Lfts 2) where
   pub find-offer-unique : (a : Dens κs find-offer-kinds.ps) → Determined (find-offer-reads.Post κs a)
   find-offer-unique a r q x y f g = f ∙ sym g
 
-module _ (κs : Lfts 3) where
+module _ (κs : Lfts 4) where
   pub cut-unique : (a : Dens κs cut-kinds.ps) → Determined (cut-reads.Post κs a)
   cut-unique a r q x y f g = f .0 ∙ sym (g .0)
 
   -- what the references hold at the end
   abbrev Exit : Type 0
-  Exit = AtExit (endedOf 3 cut-kinds.ps cut-kinds.r) κs
+  Exit = AtExit (endedOf 4 cut-kinds.ps cut-kinds.r) κs
 
   -- with its answer k, the list that a cut leaves: its numbers and its count
-  pub cut-leaves-unique : (a : Dens κs cut-kinds.ps) (k : ℕ) → Determined (Leaves (λ (s : Exit). s .1 .1 .0 .now) (cut-reads.Post κs a k))
+  pub cut-leaves-unique : (a : Dens κs cut-kinds.ps) (k : ℕ) → Determined (Leaves (λ (s : Exit). s .1 .1 .1 .1 .1 .1 .0 .now) (cut-reads.Post κs a k))
   cut-leaves-unique a k r q x y f g =
-      let same = f .2 .1 ∙ sym (g .2 .1) in
+      let same = f .2 .1 .0 ∙ sym (g .2 .1 .0) in
       same-numbers r q 64 (f .1) (g .1) (ap volumesIn (f .0) ∙ ap (λ (l : FreeList). l .segments) same ∙ sym (ap volumesIn (g .0)))
 
-  pub cut-count-unique : (a : Dens κs cut-kinds.ps) (k : ℕ) → Determined (λ (n : ℕ) (s : Exit). (n ≡ s .1 .1 .1 .0 .now) × (cut-reads.Post κs a k s))
-  cut-count-unique a k r q x y f g = f .0 ∙ ap (λ (l : FreeList). l .count) (f .1 .1 ∙ sym (g .1 .1)) ∙ sym (g .0)
+  pub cut-count-unique : (a : Dens κs cut-kinds.ps) (k : ℕ) → Determined (λ (n : ℕ) (s : Exit). (n ≡ s .1 .1 .1 .1 .1 .1 .1 .0 .now) × (cut-reads.Post κs a k s))
+  cut-count-unique a k r q x y f g = f .0 ∙ ap (λ (l : FreeList). l .count) (f .1 .1 .0 ∙ sym (g .1 .1 .0)) ∙ sym (g .0)
+
+  -- and its room
+  pub cut-room-unique : (a : Dens κs cut-kinds.ps) (k : ℕ) → Determined (λ (n : ℕ) (s : Exit). (n ≡ s .1 .1 .1 .1 .0 .now) × (cut-reads.Post κs a k s))
+  cut-room-unique a k r q x y f g =
+      f .0 ∙ f .1 .1 .1 ∙ ap (λ (l : FreeList). roomOf (listed l)) (f .1 .1 .0 ∙ sym (g .1 .1 .0)) ∙ sym (g .0 ∙ g .1 .1 .1)

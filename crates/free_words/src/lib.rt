@@ -10,13 +10,15 @@ use words::put_at;
 ghost use mathlib.Core.Path.{_≡_};
 ghost use mathlib.Core.Bool.{true};
 ghost use Prim.Native.Nat.{_<_, _≤_};
-ghost use lib.ListN.{take};
+ghost use lib.ListN.{take, getD};
+ghost use Rattle.contact.specs.Segments.{zeroVolume};
 ghost use Rattle.segmentation.specs.Granted.{Run, Runs, Covers};
 ghost use Rattle.segmentation.specs.End.{endOf};
 ghost use Rattle.free_list.specs.Listed.{listOk};
 ghost use Rattle.free_list.specs.Offer.{offerOf};
-ghost use Rattle.free_list.specs.Cut.{stretchOf, cutList};
-ghost use Rattle.free_list.specs.Granted.{Inside, insertOf, endIn};
+ghost use Rattle.free_list.specs.Cut.{stretchOf, cutList, listed};
+ghost use Rattle.free_list.specs.Room.{roomOf};
+ghost use Rattle.free_list.specs.Granted.{Inside, Roomy, insertOf, endIn};
 ghost use Rattle.words.specs.Words.{volumesIn};
 ghost use Rattle.free_words.specs.Words.{freeIn};
 
@@ -103,18 +105,19 @@ pub fn stretch(rates: &[u64; 48], m: usize, start: Date, end: Date) -> VolumeSeg
     }
 }
 
-// schedule_tx: cuts the booking out of the list where it stands; 10, and the list as it was, where there is no room for one more.
-pub fn cut(
+// The cut of a booking that begins inside its segment: what comes before it, and what comes after unless it has no length.
+fn cut_inside(
+    place: usize,
+    size: Volume,
     rates: &[u64; 48],
     m: usize,
+    room: &mut u64,
+    send: Interval,
     free: &mut [u64; 192],
     count: &mut usize,
-    place: usize,
-    send: Interval,
-    size: Volume,
 ) -> u8
-    requires { ⌜ m ≤ 16 ⌝ ∗ ⌜ Runs (take m (volumesIn (now rates))) ⌝ ∗ ⌜ Inside (freeIn (now free) (now count)) place (size .0) ⌝ }
-    ensures { λ r. ⌜ r ≡ cutList (take m (volumesIn (now (rates .entry)))) (freeIn (now (free .entry)) (now (count .entry))) place (send .start .0) (send .end .0) (size .0) .number ⌝ ∗ ⌜ freeIn (now (free .exit)) (now (count .exit)) ≡ cutList (take m (volumesIn (now (rates .entry)))) (freeIn (now (free .entry)) (now (count .entry))) place (send .start .0) (send .end .0) (size .0) .list ⌝ }
+    requires { ⌜ m ≤ 16 ⌝ ∗ ⌜ Runs (take m (volumesIn (now rates))) ⌝ ∗ ⌜ Inside (freeIn (now free) (now count)) place (size .0) ⌝ ∗ ⌜ Roomy (take m (volumesIn (now rates))) (freeIn (now free) (now count)) place (send .start .0) (send .end .0) (size .0) (now room) ⌝ ∗ ⌜ (getD (volumesIn (now free)) place zeroVolume .start .0 ≡ send .start .0 → ⊥) ⌝ }
+    ensures { λ r. ⌜ r ≡ cutList (take m (volumesIn (now (rates .entry)))) (freeIn (now (free .entry)) (now (count .entry))) place (send .start .0) (send .end .0) (size .0) .number ⌝ ∗ ⌜ freeIn (now (free .exit)) (now (count .exit)) ≡ cutList (take m (volumesIn (now (rates .entry)))) (freeIn (now (free .entry)) (now (count .entry))) place (send .start .0) (send .end .0) (size .0) .list ⌝ ∗ ⌜ now (room .exit) ≡ roomOf (listed (freeIn (now (free .exit)) (now (count .exit)))) ⌝ }
 {
     told(free);
     let from = send.start;
@@ -123,12 +126,13 @@ pub fn cut(
     let g = listed_at(free, place);
     let start = g.start;
     let end = g.end;
-    if start.0 == from.0 {
-        put_at(free, place, free_list::rest(g, to, size));
-        return 0;
-    }
+    let off = g.volume;
     let before = stretch(rates, m, start, from);
+    let part = before.volume;
     if from.0 == to.0 {
+        let was = Volume(*room);
+        let next = free_list::changed(was, off, part);
+        *room = next.0;
         put_at(free, place, before);
         return 0;
     }
@@ -136,8 +140,45 @@ pub fn cut(
         return units::refusal::FULL;
     }
     let after = stretch(rates, m, to, end);
+    let on = Volume(part.0 + after.volume.0);
+    let was = Volume(*room);
+    let next = free_list::changed(was, off, on);
+    *room = next.0;
     insert(free, n, place + 1, after);
     put_at(free, place, before);
     *count = n + 1;
+    0
+}
+
+// schedule_tx: cuts the booking out of the list where it stands, and keeps its room up; 10, and both as they were, where there is no place for one
+// more. The parameters stand in the order in which the library's own calls have theirs, so that few are moved between registers.
+pub fn cut(
+    place: usize,
+    size: Volume,
+    rates: &[u64; 48],
+    m: usize,
+    room: &mut u64,
+    send: Interval,
+    free: &mut [u64; 192],
+    count: &mut usize,
+) -> u8
+    requires { ⌜ m ≤ 16 ⌝ ∗ ⌜ Runs (take m (volumesIn (now rates))) ⌝ ∗ ⌜ Inside (freeIn (now free) (now count)) place (size .0) ⌝ ∗ ⌜ Roomy (take m (volumesIn (now rates))) (freeIn (now free) (now count)) place (send .start .0) (send .end .0) (size .0) (now room) ⌝ }
+    ensures { λ r. ⌜ r ≡ cutList (take m (volumesIn (now (rates .entry)))) (freeIn (now (free .entry)) (now (count .entry))) place (send .start .0) (send .end .0) (size .0) .number ⌝ ∗ ⌜ freeIn (now (free .exit)) (now (count .exit)) ≡ cutList (take m (volumesIn (now (rates .entry)))) (freeIn (now (free .entry)) (now (count .entry))) place (send .start .0) (send .end .0) (size .0) .list ⌝ ∗ ⌜ now (room .exit) ≡ roomOf (listed (freeIn (now (free .exit)) (now (count .exit)))) ⌝ }
+{
+    told(free);
+    let from = send.start;
+    let to = send.end;
+    let g = listed_at(free, place);
+    let start = g.start;
+    if start.0 != from.0 {
+        return cut_inside(place, size, rates, m, room, send, free, count);
+    }
+    let off = g.volume;
+    let kept = free_list::rest(g, to, size);
+    let on = kept.volume;
+    let was = Volume(*room);
+    let next = free_list::changed(was, off, on);
+    *room = next.0;
+    put_at(free, place, kept);
     0
 }

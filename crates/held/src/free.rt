@@ -5,6 +5,7 @@ use crate::Kind;
 use contact::Contact;
 use free_list::FreeList;
 use seg::FreeVolume;
+use units::Volume;
 ghost use mathlib.Core.Path.{_≡_};
 ghost use Rattle.held.specs.State.{noFree, keptFree};
 
@@ -18,6 +19,7 @@ pub fn empty() -> FreeVolume
     FreeVolume {
         contact: contact,
         free: free,
+        room: Volume(0),
     }
 }
 

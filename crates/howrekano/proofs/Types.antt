@@ -1,6 +1,8 @@
 -- The declared types that the library's functions speak of, each with its laws.
 use Rattle.units.proofs.Date as Date
 use Rattle.units.proofs.Date.Laws as Date′
+use Rattle.units.proofs.Volume as Volume
+use Rattle.units.proofs.Volume.Laws as Volume′
 use Rattle.units.proofs.Bundle as Bundle
 use Rattle.units.proofs.Bundle.Laws as Bundle′
 use Rattle.units.proofs.TxData as TxData
@@ -19,6 +21,8 @@ use Rattle.seg.proofs.Opened as FreeOpened
 use Rattle.seg.proofs.Opened.Laws as FreeOpened′
 use Rattle.seg.proofs.Listing as FreeListing
 use Rattle.seg.proofs.Listing.Laws as FreeListing′
+use Rattle.seg.proofs.RoomLeft as RoomLeft
+use Rattle.seg.proofs.RoomLeft.Laws as RoomLeft′
 use Rattle.seg.proofs.Booked as FreeBooked
 use Rattle.pseg.proofs.PrioritySeg as PrioritySeg
 use Rattle.pseg.proofs.PrioritySeg.Laws as PrioritySeg′
@@ -47,6 +51,9 @@ use Rattle.howrekano.proofs.Outcome.{Outcome}
 abbrev pub date : Known
 date = known Date.the-type Date′.the-laws Date′.the-copy Date′.the-plain
 
+abbrev pub volume : Known
+volume = known Volume.the-type Volume′.the-laws Volume′.the-copy Volume′.the-plain
+
 abbrev pub bundle : Known
 bundle = known Bundle.the-type Bundle′.the-laws Bundle′.the-copy Bundle′.the-plain
 
@@ -74,6 +81,9 @@ free-opened = known FreeOpened.the-type FreeOpened′.the-laws FreeOpened′.the
 
 abbrev pub free-listing : Known
 free-listing = known FreeListing.the-type FreeListing′.the-laws FreeListing′.the-copy FreeListing′.the-plain
+
+abbrev pub room-left : Known
+room-left = known RoomLeft.the-type RoomLeft′.the-laws RoomLeft′.the-copy RoomLeft′.the-plain
 
 abbrev pub free-booked : Outcome free-volume
 free-booked = record { name = FreeBooked.the-type .name; Both = FreeBooked.the-type .D; number = λ b. b .number; manager = λ b. b .manager; one = FreeBooked.the-type .to-one }

@@ -21,8 +21,11 @@ use Rattle.words.proofs.Numbers.{same-numbers as same-volumes}
 use Rattle.words.proofs.Unique.{Leaves}
 use Rattle.booking_words.specs.Words.{bookingsIn}
 use Rattle.booking_words.proofs.SetUnique.{same-numbers as same-bookings}
+use Rattle.free_list.specs.Cut.{listed}
+use Rattle.free_list.specs.Room.{roomOf}
 use Rattle.seg.specs.declared.FreeVolume.{FreeVolume}
 use Rattle.seg.specs.Open.{openOf as freeOpenOf}
+use Rattle.seg.specs.Room.{roomIn, roomAnswer}
 use Rattle.seg.specs.Record.{recordOk as freeOk}
 use Rattle.seg.specs.List.{listOf as freeListOf}
 use Rattle.seg.specs.DryRun.{dryRunOf as freeDryRunOf}
@@ -52,6 +55,8 @@ use Rattle.howrekano.proofs.free.opened.Reads as free-opened-reads
 use Rattle.howrekano.proofs.free.hk_free_open as free-open
 use Rattle.howrekano.proofs.free.hk_free_ok as free-ok
 use Rattle.howrekano.proofs.free.hk_free_list as free-list
+use Rattle.howrekano.proofs.free.hk_free_room as free-room
+use Rattle.howrekano.proofs.free.hk_free_room_kept as free-room-kept
 use Rattle.howrekano.proofs.free.hk_free_dry_run as free-dry-run
 use Rattle.howrekano.proofs.free.hk_free_dry_run_kept.Kinds as free-dry-run-kept-kinds
 use Rattle.howrekano.proofs.free.hk_free_dry_run_kept.Reads as free-dry-run-kept-reads
@@ -92,7 +97,7 @@ use Rattle.howrekano.proofs.queue.hk_queue_dequeue as queue-dequeue
 use Rattle.howrekano.proofs.queue.hk_queue_dequeue_kept as queue-dequeue-kept
 use Rattle.howrekano.proofs.Known.{Known, Of}
 use Rattle.howrekano.proofs.Outcome.{Outcome}
-use Rattle.howrekano.proofs.Types.{date, bundle, dates, offer, opening, polynomial-opening, queue-opening, free-volume, free-opened, free-listing, free-booked, priority-seg, priority-opened, priority-listing, priority-booked, poly-seg, polynomial-opened, polynomial-listing, polynomial-booked, queue, queue-opened, queue-listing, queue-booked}
+use Rattle.howrekano.proofs.Types.{date, volume, bundle, dates, offer, opening, polynomial-opening, queue-opening, free-volume, free-opened, free-listing, room-left, free-booked, priority-seg, priority-opened, priority-listing, priority-booked, poly-seg, polynomial-opened, polynomial-listing, polynomial-booked, queue, queue-opened, queue-listing, queue-booked}
 
 -- by value
 pub free-opened-unique : (x : Of opening) → Determined (free-opened-reads.Post tt (x, tt))
@@ -141,9 +146,9 @@ module _ {D X : Type 0} (left : X → D) (behind : X → List ℕ) (count : X �
     )
 
 -- with its answer k, what a booking leaves
-module _ (κs : Lfts 5) (a : Dens κs free-book-kept-kinds.ps) where
+module _ (κs : Lfts 6) (a : Dens κs free-book-kept-kinds.ps) where
   abbrev FreeExit : Type 0
-  FreeExit = AtExit (endedOf 5 free-book-kept-kinds.ps free-book-kept-kinds.r) κs
+  FreeExit = AtExit (endedOf 6 free-book-kept-kinds.ps free-book-kept-kinds.r) κs
 
   abbrev free-numbers : FreeExit → List ℕ
   free-numbers s = s .1 .1 .1 .1 .1 .0 .now
@@ -158,7 +163,12 @@ module _ (κs : Lfts 5) (a : Dens κs free-book-kept-kinds.ps) where
   free-book-kept-unique r q x y f g = f .0 ∙ sym (g .0)
 
   pub free-book-kept-left-unique : (k : ℕ) → AllLeft free-left free-numbers free-count (free-book-kept-reads.Post κs a k)
-  free-book-kept-left-unique k = all-left free-left free-numbers free-count _ volumesIn (λ l k. same-volumes l k 64) (λ m. m .free .segments) (λ m. m .free .count) (λ x. refl) (λ x. refl) _ (λ x p. p .1)
+  free-book-kept-left-unique k = all-left free-left free-numbers free-count _ volumesIn (λ l k. same-volumes l k 64) (λ m. m .free .segments) (λ m. m .free .count) (λ x. refl) (λ x. refl) _ (λ x p. p .1 .0)
+
+  -- and the room that it leaves
+  pub free-book-kept-room-unique : (k : ℕ) → Determined (λ (n : ℕ) (x : FreeExit). (n ≡ x .1 .1 .1 .1 .1 .1 .1 .0 .now) × free-book-kept-reads.Post κs a k x)
+  free-book-kept-room-unique k r q x y f g =
+      f .0 ∙ f .1 .1 .1 ∙ ap (λ (m : FreeVolume). roomOf (listed (m .free))) (f .1 .1 .0 ∙ sym (g .1 .1 .0)) ∙ sym (g .0 ∙ g .1 .1 .1)
 
 module _ (κs : Lfts 5) (a : Dens κs priority-book-kept-kinds.ps) where
   abbrev PriorityExit : Type 0
@@ -224,6 +234,12 @@ module _ {M : Type 1} (𝓤 : URA M) (H : Heap 𝓤) (A : Atoms 𝓤) (mem : Mem
 
       pub free-list-says : (r : Of free-listing) (e : AtExit free-list.ended κs) → free-list.clauses 𝓤 H A mem run κs (m, tt) .ensures tt r e ≡ fact 𝓤 (Answered (freeListOf (m .now)) r)
       free-list-says r e = refl
+
+      pub free-room-says : (r : Of room-left) (e : AtExit free-room.ended κs) → free-room.clauses 𝓤 H A mem run κs (m, tt) .ensures tt r e ≡ fact 𝓤 (Answered (roomAnswer (m .now)) r)
+      free-room-says r e = refl
+
+      pub free-room-kept-says : (r : Of volume) (e : AtExit free-room-kept.ended κs) → free-room-kept.clauses 𝓤 H A mem run κs (m, tt) .ensures tt r e ≡ fact 𝓤 (Answered (roomIn (m .now)) r)
+      free-room-kept-says r e = refl
 
       pub free-dry-run-says : (r : Of offer) (e : AtExit free-dry-run.ended κs) → free-dry-run.clauses 𝓤 H A mem run κs (m, (at, (b, tt))) .ensures tt r e ≡ fact 𝓤 (Answered (freeDryRunOf (m .now) at b) r)
       free-dry-run-says r e = refl

@@ -8,6 +8,8 @@ use Rattle.units.specs.declared.Interval.{Interval}
 use Rattle.units.specs.declared.TxData.{TxData}
 use Rattle.units.specs.Answer.{interval}
 use Rattle.contact.specs.declared.Contact.{Contact}
+use Rattle.free_list.specs.Cut.{listed}
+use Rattle.free_list.specs.Room.{roomOf}
 use Rattle.poly.specs.declared.Polynome.{Polynome}
 use Rattle.seg.specs.declared.FreeVolume.{FreeVolume}
 use Rattle.pseg.specs.declared.PrioritySeg.{PrioritySeg}
@@ -21,9 +23,10 @@ abbrev pub contactIn : Interval → List ℕ → ℕ → List ℕ → ℕ → Co
 contactIn w rates m delays k =
     record { window = w; rates = volumesIn rates; «rate_count» = m; delays = delaysIn delays; «delay_count» = k }
 
--- 01, "Managers", Free volume: a contact and its free list
+-- 01, "Managers", Free volume: a contact and its free list, with the room that the list has
 abbrev pub freeVolumeIn : Interval → List ℕ → ℕ → List ℕ → ℕ → List ℕ → ℕ → FreeVolume
-freeVolumeIn w rates m delays k free n = record { contact = contactIn w rates m delays k; free = freeIn free n }
+freeVolumeIn w rates m delays k free n =
+    record { contact = contactIn w rates m delays k; free = freeIn free n; room = record { 0 = roomOf (listed (freeIn free n)) } }
 
 -- Priority: a contact and its bookings
 abbrev pub prioritySegIn : Interval → List ℕ → ℕ → List ℕ → ℕ → List ℕ → ℕ → PrioritySeg

@@ -8,6 +8,7 @@ use units::Date;
 use units::Interval;
 use units::Offer;
 use units::TxData;
+use units::Volume;
 ghost use mathlib.Core.Path.{_≡_};
 ghost use mathlib.Core.Bool.{true};
 ghost use Rattle.seg.specs.Open.{openOf};
@@ -16,6 +17,10 @@ ghost use Rattle.seg.specs.DryRun.{dryRunOf};
 ghost use Rattle.seg.specs.Book.{bookOf};
 ghost use Rattle.seg.specs.List.{listOf};
 ghost use Rattle.seg.specs.Granted.{chosenOf};
+ghost use Rattle.free_list.specs.Cut.{listed};
+ghost use Rattle.free_list.specs.Room.{roomOf};
+ghost use Rattle.free_words.specs.Words.{freeIn};
+ghost use Rattle.seg.specs.Room.{roomIn, roomAnswer};
 ghost use Rattle.howrekano.specs.Words.{freeVolumeIn, datesIn};
 
 // The opening by value, with its figures in one record.
@@ -50,6 +55,21 @@ pub extern "C" fn hk_free_list(m: &FreeVolume) -> seg::Listing
     ensures { λ r. ⌜ r ≡ listOf (now (m .entry)) ⌝ }
 {
     (*m).list()
+}
+
+#[no_mangle]
+pub extern "C" fn hk_free_room(m: &FreeVolume) -> seg::RoomLeft
+    ensures { λ r. ⌜ r ≡ roomAnswer (now (m .entry)) ⌝ }
+{
+    (*m).room()
+}
+
+#[no_mangle]
+pub extern "C" fn hk_free_room_kept(m: &FreeVolume) -> Volume
+    requires { ⌜ recordOk (now m) ≡ true ⌝ }
+    ensures { λ r. ⌜ r ≡ roomIn (now (m .entry)) ⌝ }
+{
+    (*m).room_kept()
 }
 
 #[no_mangle]
@@ -147,12 +167,13 @@ pub extern "C" fn hk_free_book_kept(
     delay_count: usize,
     free: &mut [u64; 192],
     count: &mut usize,
+    room: &mut u64,
     at: Date,
     bundle: Bundle,
     dates: &[u64; 4],
 ) -> u8
-    requires { ⌜ recordOk (freeVolumeIn window (now rates) «rate_count» (now delays) «delay_count» (now free) (now count)) ≡ true ⌝ }
-    ensures { λ r. ⌜ r ≡ bookOf (freeVolumeIn window (now (rates .entry)) «rate_count» (now (delays .entry)) «delay_count» (now (free .entry)) (now (count .entry))) at bundle (datesIn (now (dates .entry))) .number ⌝ ∗ ⌜ freeVolumeIn window (now (rates .entry)) «rate_count» (now (delays .entry)) «delay_count» (now (free .exit)) (now (count .exit)) ≡ bookOf (freeVolumeIn window (now (rates .entry)) «rate_count» (now (delays .entry)) «delay_count» (now (free .entry)) (now (count .entry))) at bundle (datesIn (now (dates .entry))) .manager ⌝ }
+    requires { ⌜ recordOk (freeVolumeIn window (now rates) «rate_count» (now delays) «delay_count» (now free) (now count)) ≡ true ⌝ ∗ ⌜ now room ≡ roomOf (listed (freeIn (now free) (now count))) ⌝ }
+    ensures { λ r. ⌜ r ≡ bookOf (freeVolumeIn window (now (rates .entry)) «rate_count» (now (delays .entry)) «delay_count» (now (free .entry)) (now (count .entry))) at bundle (datesIn (now (dates .entry))) .number ⌝ ∗ ⌜ freeVolumeIn window (now (rates .entry)) «rate_count» (now (delays .entry)) «delay_count» (now (free .exit)) (now (count .exit)) ≡ bookOf (freeVolumeIn window (now (rates .entry)) «rate_count» (now (delays .entry)) «delay_count» (now (free .entry)) (now (count .entry))) at bundle (datesIn (now (dates .entry))) .manager ⌝ ∗ ⌜ now (room .exit) ≡ roomOf (listed (freeIn (now (free .exit)) (now (count .exit)))) ⌝ }
 {
     let n = *count;
     let stated = crate::dates_at(dates);
@@ -175,5 +196,5 @@ pub extern "C" fn hk_free_book_kept(
     }
     let send = stated.send;
     let size = bundle.size;
-    free_words::cut(rates, rate_count, free, count, place, send, size)
+    free_words::cut(place, size, rates, rate_count, room, send, free, count)
 }

@@ -146,7 +146,7 @@ pub extern "C" fn hk_polynomial_dry_run_kept(
     words::answer_at(delays, delay_count, send)
 }
 
-// The list is cut where it stands. There are no rates: none of the numbers lent in their place is read.
+// The list is cut where it stands. There are no rates: none of the numbers lent in their place is read, and the list has no room.
 #[no_mangle]
 pub extern "C" fn hk_polynomial_book_kept(
     window: Interval,
@@ -174,5 +174,6 @@ pub extern "C" fn hk_polynomial_book_kept(
         return number;
     }
     let send = stated.send;
-    free_words::cut(delays, 0, free, count, place, send, Volume(0))
+    let mut none: u64 = 0;
+    free_words::cut(place, Volume(0), delays, 0, &mut none, send, free, count)
 }

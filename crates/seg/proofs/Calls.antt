@@ -3,7 +3,11 @@ use Prim.Native.Nat.{ℕ}
 use mathlib.Core.Bool.{Bool, true, false}
 use mathlib.Core.Path.{_≡_, refl, sym, ap, _∙_}
 use mathlib.Core.List.{List}
+use mathlib.Core.Logic.{⊎-elim}
+use native.Mathlib.Omega.{arith}
+use borrow.Author.Tests.{eq-eqb, ne-eqb}
 use Rattle.units.specs.declared.Date.{Date}
+use Rattle.units.specs.declared.Interval.{Interval}
 use Rattle.units.specs.declared.TxData.{TxData}
 use Rattle.units.specs.declared.Bundle.{Bundle}
 use Rattle.units.specs.declared.Offer.{Offer}
@@ -14,18 +18,35 @@ use Rattle.units.specs.Granted.{refusalOf}
 use Rattle.units.proofs.Logic.{unless-go, unless-stop}
 use Rattle.units.proofs.Loads.{asked-load, load}
 use Rattle.segmentation.specs.declared.DelaySegment.{DelaySegment}
-use Rattle.contact.specs.Record.{delayList}
+use Rattle.contact.specs.Record.{ratesOf, delayList}
 use Rattle.free_list.specs.declared.Found.{Found}
 use Rattle.free_list.specs.declared.Found.the-variants.{At, None}
+use Rattle.free_list.specs.declared.Cut.{Cut}
 use Rattle.free_list.specs.Granted.{Inside, noneChosen, chosenAt, chosenIn}
+use Rattle.free_list.proofs.CutList.{cut-number, cut-refused}
 use Rattle.free_list.proofs.ByChoice.{chosen-stop, chosen-found as by-found, table, table-refused, table-fits, table-found, table-done}
 use Rattle.seg.specs.declared.FreeVolume.{FreeVolume}
 use Rattle.seg.specs.declared.Booked.{Booked}
-use Rattle.seg.specs.Record.{recordOk}
+use Rattle.seg.specs.Record.{recordOk, withFree}
 use Rattle.seg.specs.DryRun.{dryRunOf, foundOf, answerTo}
-use Rattle.seg.specs.Book.{bookOf, bookedOf, bookedAt, refusedBooking}
-use Rattle.seg.specs.Granted.{chosenOf}
-use Rattle.seg.proofs.Facts.{facts, cut-asks}
+use Rattle.seg.specs.Book.{bookOf, bookedOf, bookedAt, refusedBooking, cutFree}
+use Rattle.seg.specs.Granted.{chosenOf, bookedBy}
+use Rattle.seg.proofs.Facts.{Facts, facts, own-list, cut-asks}
+
+-- refused or done, a booking is what the cut leaves: with its own list, and that list's room, a record is the one that came
+module _ (r : FreeVolume) (q : Facts r) (i : ℕ) (send : Interval) (v : ℕ) where
+  abbrev cut : Cut
+  cut = cutFree r i send v
+
+  booked-by : bookedOf r i send v ≡ bookedBy r cut
+  booked-by =
+      ⊎-elim
+      (λ (z : cut .number ≡ 0). unless-go _ _ _ (eq-eqb _ _ z) ∙ ap (λ (n : ℕ). record { number = n; manager = withFree r (cut .list) }) (sym z))
+      (λ (z : cut .number ≡ 10).
+      let none : cut .number ≡ 0 → ⊥ = λ y. omega arith in
+      let same : withFree r (cut .list) ≡ r = ap (withFree r) (cut-refused (ratesOf (r .contact)) (r .free) i (send .start .0) (send .end .0) v none) ∙ own-list r q in
+      unless-stop _ _ _ (ne-eqb _ _ none) ∙ ap (refusedBooking (cut .number)) (sym same))
+      (cut-number (ratesOf (r .contact)) (r .free) i (send .start .0) (send .end .0) v)
 
 module _ (r : FreeVolume) (at : Date) (b : Bundle) where
   pub dry-record : recordOk r ≡ false → dryRunOf r at b ≡ refused 1
@@ -90,9 +111,9 @@ module _ (r : FreeVolume) (at : Date) (b : Bundle) where
         unfolding chosenOf
         chosen-found = table-found fits delays found d refuse done none
 
-        pub chosen-done : (bookOf r at b d ≡ bookedOf r (chosenOf r at b .place) (d .send) (b .size .0)) × Inside (r .free) (chosenOf r at b .place) (b .size .0)
+        pub chosen-done : (bookOf r at b d ≡ bookedBy r (cutFree r (chosenOf r at b .place) (d .send) (b .size .0))) × Inside (r .free) (chosenOf r at b .place) (b .size .0)
         unfolding chosenOf
         chosen-done = (
-          book-is ∙ table-done fits delays found d refuse done none,
+          book-is ∙ table-done fits delays found d refuse done none ∙ booked-by r (facts r ok) _ _ _,
           cut-asks r (facts r ok) (at .0) (b .size .0) (load b (asked-load at b chosen-fits) .some) (chosenOf r at b .place) (d .send) chosen-found,
         )

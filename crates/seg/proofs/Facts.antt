@@ -1,13 +1,15 @@
 -- What a record that passes its test is, and what an offer made on it is.
-use Prim.Native.Nat.{ℕ, _<_, _≤_, _^_}
-use mathlib.Core.Bool.{true}
-use mathlib.Core.Path.{_≡_}
+use Prim.Native.Nat.{ℕ, _+_, _-_, _<_, _≤_, _^_}
+use mathlib.Core.Bool.{Bool, true, false}
+use mathlib.Core.Path.{_≡_, refl, sym, ap, _∙_}
 use native.Mathlib.Nat.{le-refl}
 use native.Mathlib.Omega.{arith}
+use lib.Dec.{leb, eqb}
 use lib.ListN.{drop}
-use borrow.Author.Tests.{le-leb}
+use borrow.Author.Tests.{le-leb, eqb-true, eq-eqb}
 use Rattle.units.specs.declared.Interval.{Interval}
-use Rattle.units.specs.Logic.{allOf}
+use Rattle.units.specs.declared.Volume.{Volume}
+use Rattle.units.specs.Logic.{both, allOf}
 use Rattle.units.proofs.Logic.{both-fst, both-snd, both-yes}
 use Rattle.units.proofs.Counted.{counted-some, counted-most, counted-holds}
 use Rattle.segmentation.specs.Capacity.{topOf}
@@ -16,15 +18,17 @@ use Rattle.contact.specs.Segments.{noVolume}
 use Rattle.contact.specs.Record.{contactOk, ratesOf}
 use Rattle.contact.proofs.Sound.{Sound, sound}
 use Rattle.free_list.specs.declared.Found.the-variants.{At}
-use Rattle.free_list.specs.Granted.{Inside}
+use Rattle.free_list.specs.declared.Cut.{Cut}
+use Rattle.free_list.specs.Granted.{Inside, Changes}
 use Rattle.free_list.specs.Listed.{listOk}
 use Rattle.free_list.specs.Cut.{listed}
+use Rattle.free_list.specs.Room.{roomOf}
 use Rattle.free_list.proofs.ListedLaws.{Listed, listed-true}
 use Rattle.free_list.proofs.Offered.{Offered, exact-laws, offer-at}
 use Rattle.free_list.proofs.CutLaws.{offered-inside, offered-ends}
 use Rattle.free_list.proofs.CutList.{Kept, offered-inside-list}
 use Rattle.seg.specs.declared.FreeVolume.{FreeVolume}
-use Rattle.seg.specs.Record.{freeOk, recordOk}
+use Rattle.seg.specs.Record.{freeOk, recordOk, withLeft, withFree}
 use Rattle.seg.specs.DryRun.{foundOf}
 
 pub record Facts (r : FreeVolume) : Type 0 where
@@ -35,12 +39,14 @@ pub record Facts (r : FreeVolume) : Type 0 where
   pub rules : listOk (ratesOf (r .contact)) (r .contact .window .start .0) (r .contact .window .end .0) (listed (r .free)) ≡ true
   pub free : Listed (ratesOf (r .contact)) (r .contact .window .start .0) (r .contact .window .end .0) (listed (r .free))
   pub unused : allOf noVolume (drop (r .free .count) (r .free .segments)) ≡ true
+  pub room : r .room .0 ≡ roomOf (listed (r .free))
 
 pub facts : (r : FreeVolume) → recordOk r ≡ true → Facts r
 unfolding recordOk freeOk
 facts r e =
     let test = both-fst _ _ e in
-    let list = both-snd _ _ e in
+    let held = both-snd _ _ e in
+    let list = both-fst _ _ held in
     let holds = counted-holds 64 (r .free .count) _ list in
     record {
       test = test;
@@ -50,15 +56,47 @@ facts r e =
       rules = both-fst _ _ holds;
       free = listed-true _ _ _ _ (both-fst _ _ holds);
       unused = both-snd _ _ holds;
+      room = eqb-true _ _ (both-snd _ _ held);
     }
 
--- a contact and a free list that keep their rules are a record that does
-pub record-kept : (r : FreeVolume) → contactOk (r .contact) ≡ true
-    → Kept (ratesOf (r .contact)) (r .contact .window .start .0) (r .contact .window .end .0) (r .free) → recordOk r ≡ true
+-- the room is tested with the list
+same-tests : (a b l u e : Bool) → both (both a (both b (both l u))) e ≡ both a (both b (both (both l e) u))
+unfolding both
+same-tests false b l u e = refl
+same-tests true false l u e = refl
+same-tests true true false u e = refl
+same-tests true true true true true = refl
+same-tests true true true true false = refl
+same-tests true true true false true = refl
+same-tests true true true false false = refl
+
+-- the record's test, in the order of the code
+pub record-is : (r : FreeVolume) → recordOk r ≡ both (contactOk (r .contact))
+    (both (leb 1 (r .free .count))
+    (both (leb (r .free .count) 64)
+    (both (both (listOk (ratesOf (r .contact)) (r .contact .window .start .0) (r .contact .window .end .0) (listed (r .free))) (eqb (r .room .0) (roomOf (listed (r .free)))))
+    (allOf noVolume (drop (r .free .count) (r .free .segments))))))
 unfolding recordOk freeOk
-record-kept r e k =
+record-is r = ap (both (contactOk (r .contact))) (same-tests _ _ _ _ _)
+
+-- a contact and a free list that keep their rules, with the list's room, are a record that does
+pub record-kept : (r : FreeVolume) → contactOk (r .contact) ≡ true
+    → Kept (ratesOf (r .contact)) (r .contact .window .start .0) (r .contact .window .end .0) (r .free)
+    → r .room .0 ≡ roomOf (listed (r .free)) → recordOk r ≡ true
+unfolding recordOk freeOk
+record-kept r e k h =
     both-yes _ _ e
+    (both-yes _ _
     (both-yes _ _ (le-leb _ _ (k .some)) (both-yes _ _ (le-leb _ _ (k .few)) (both-yes _ _ (k .rules) (k .unused))))
+    (eq-eqb _ _ h))
+
+-- a record with what a cut left has the room of its list
+pub left-is : (r : FreeVolume) (x : Cut) (n : Volume) → Changes (r .room .0) x → n .0 ≡ r .room .0 - x .off .0 + x .on .0 → withLeft r (x .list) n ≡ withFree r (x .list)
+left-is r x n q e = ap (λ (k : ℕ). withLeft r (x .list) (record { 0 = k })) (e ∙ q .is)
+
+-- a record with its own list is the one that came
+pub own-list : (r : FreeVolume) → Facts r → withFree r (r .free) ≡ r
+own-list r q = ap (λ (n : ℕ). withLeft r (r .free) (record { 0 = n })) (sym (q .room))
 
 module _ (r : FreeVolume) (q : Facts r) (t v : ℕ) (pos : 0 < v) (i : ℕ) (send : Interval) (h : foundOf r t v ≡ At i send) where
   -- the offer stands at a listed segment, with the laws of the end rule

@@ -4,6 +4,7 @@ use mathlib.Core.Bool.{Bool, true, false}
 use mathlib.Core.Path.{_≡_, refl, sym, ap, _∙_}
 use mathlib.Core.List.{List, [], _∷_}
 use mathlib.Core.Logic.{⊎-elim, _⊎_, inl, inr}
+use native.Mathlib.Nat.{add-zero}
 use native.Mathlib.Omega.{arith}
 use lib.Dec.{eqb}
 use lib.ListN.{length, take}
@@ -28,25 +29,31 @@ use Rattle.contact.proofs.Fresh.{opened-ok, opened-total}
 use Rattle.contact.proofs.Refusals.{opened-is}
 use Rattle.free_list.specs.declared.Found.the-variants.{At}
 use Rattle.free_list.specs.Cut.{listed, listIn, cutOf, cutList, wholeWindow}
+use Rattle.free_list.specs.Room.{roomOf}
 use Rattle.free_list.proofs.ListedLaws.{Listed}
 use Rattle.free_list.proofs.Offered.{offered-at}
 use Rattle.free_list.proofs.CutLaws.{cut-some, cut-listed}
-use Rattle.free_list.proofs.CutList.{kept-in, cut-number, cut-refused, cut-few, cut-list}
+use Rattle.free_list.proofs.CutList.{listed-in, kept-in, cut-number, cut-refused, cut-few, cut-list}
 use Rattle.seg.specs.declared.FreeVolume.{FreeVolume}
 use Rattle.seg.specs.declared.Opened.{Opened}
 use Rattle.seg.specs.declared.Booked.{Booked}
-use Rattle.seg.specs.Record.{recordOk}
-use Rattle.seg.specs.Open.{refusedOpening, openOf}
+use Rattle.seg.specs.Record.{recordOk, withFree}
+use Rattle.seg.specs.Open.{refusedOpening, wholeOf, openOf}
 use Rattle.seg.specs.DryRun.{foundOf}
-use Rattle.seg.specs.Book.{bookOf, bookedOf, refusedBooking}
-use Rattle.seg.specs.Granted.{chosenOf}
-use Rattle.seg.proofs.Facts.{facts, record-kept, found-offered}
+use Rattle.seg.specs.Book.{bookOf, refusedBooking, cutFree}
+use Rattle.seg.specs.Granted.{chosenOf, bookedBy}
+use Rattle.seg.proofs.Facts.{facts, record-kept, own-list, found-offered}
 use Rattle.seg.proofs.Calls.{chosen-refused, chosen-fits, chosen-found, chosen-done}
 
 -- The opening.
+-- the room of the whole window is its volume
+pub whole-room : (w : Interval) (total : ℕ) → roomOf (listed (listIn (wholeWindow w total ∷ []))) ≡ total
+unfolding roomOf
+whole-room w total = ap roomOf (listed-in (wholeWindow w total ∷ [])) ∙ add-zero total
+
 abbrev doneOf : Interval → ContactOpened → Opened
 doneOf w o =
-    record { number = 0; manager = record { contact = o .contact; free = listIn (wholeWindow w (o .total .0) ∷ []) } }
+    record { number = 0; manager = wholeOf (o .contact) w (o .total .0) }
 
 zero-go : (w : Interval) (o : ContactOpened) (c : Bool) → eqb (o .number) 0 ≡ c → unless c (refusedOpening (o .number)) (doneOf w o) .number ≡ 0
     → (o .number ≡ 0) × (unless c (refusedOpening (o .number)) (doneOf w o) ≡ doneOf w o)
@@ -58,7 +65,7 @@ module _ (w : Interval) (rates : List RateSegment) (m : ℕ) (delays : List Dela
   -- what an accepted opening hands back
   pub opened-manager : (openContact w rates m delays k .number ≡ 0)
       × (openOf w rates m delays k .manager
-      ≡ record { contact = contactOf w rates m delays k; free = listIn (wholeWindow w (totalOf (take m rates)) ∷ []) })
+      ≡ wholeOf (contactOf w rates m delays k) w (totalOf (take m rates)))
   unfolding openOf
   opened-manager =
       let z = zero-go w (openContact w rates m delays k) (eqb (openContact w rates m delays k .number) 0) refl zero in
@@ -79,7 +86,8 @@ module _ (w : Interval) (rates : List RateSegment) (m : ℕ) (delays : List Dela
       rw (opened-manager .1)
       (record-kept _ opened-contact
       (kept-in l (w .start .0) (w .end .0) (wholeWindow w (totalOf (take m rates)) ∷ []) (omega arith) (omega arith)
-      (omega arith, omega (arith, q .some), omega arith, omega arith, tt)))
+      (omega arith, omega (arith, q .some), omega arith, omega arith, tt))
+      (sym (whole-room w (totalOf (take m rates)))))
 
 -- The booking.
 pub record Refused (r : FreeVolume) (a : Booked) : Type 0 where
@@ -93,7 +101,7 @@ pub record Accepted (r : FreeVolume) (at : Date) (b : Bundle) (d : TxData) (a : 
   pub few : length (cutOf (ratesOf (r .contact)) (listed (r .free)) place (d .send .start .0) (d .send .end .0) (b .size .0)) ≤ 64
   pub number : a .number ≡ 0
   pub manager : a .manager
-      ≡ record { contact = r .contact; free = listIn (cutOf (ratesOf (r .contact)) (listed (r .free)) place (d .send .start .0) (d .send .end .0) (b .size .0)) }
+      ≡ withFree r (listIn (cutOf (ratesOf (r .contact)) (listed (r .free)) place (d .send .start .0) (d .send .end .0) (b .size .0)))
 
 refuse : (n : ℕ) (r : FreeVolume) (a : Booked) → (n ≡ 0 → ⊥) → a ≡ refusedBooking n r → Refused r a
 refuse n r a h e = record { number = λ z. h (sym (ap (λ (x : Booked). x .number) e) ∙ z); same = ap (λ (x : Booked). x .manager) e }
@@ -107,7 +115,7 @@ module _ (r : FreeVolume) (at : Date) (b : Bundle) (d : TxData) (ok : recordOk r
       let v = b .size .0 in
       let l = ratesOf (r .contact) in
       let i = chosenOf r at b .place in
-      let is : booked ≡ bookedOf r i (d .send) v = chosen-done r at b ok d none .0 in
+      let is : booked ≡ bookedBy r (cutFree r i (d .send) v) = chosen-done r at b ok d none .0 in
       ⊎-elim
       (λ (z : cutList l (r .free) i (d .send .start .0) (d .send .end .0) v .number ≡ 0).
       inr (record {
@@ -116,12 +124,12 @@ module _ (r : FreeVolume) (at : Date) (b : Bundle) (d : TxData) (ok : recordOk r
         found = chosen-found r at b ok d none;
         few = cut-few l (r .free) i (d .send .start .0) (d .send .end .0) v z;
         number = ap (λ (x : Booked). x .number) is ∙ z;
-        manager = ap (λ (x : Booked). x .manager) is ∙ ap (λ x. record { contact = r .contact; free = x }) (cut-list l (r .free) i (d .send .start .0) (d .send .end .0) v z);
+        manager = ap (λ (x : Booked). x .manager) is ∙ ap (withFree r) (cut-list l (r .free) i (d .send .start .0) (d .send .end .0) v z);
       }))
       (λ (z : cutList l (r .free) i (d .send .start .0) (d .send .end .0) v .number ≡ 10).
       inl (record {
         number = λ y. omega (arith, y, z, ap (λ (x : Booked). x .number) is);
-        same = ap (λ (x : Booked). x .manager) is ∙ ap (λ x. record { contact = r .contact; free = x }) (cut-refused l (r .free) i (d .send .start .0) (d .send .end .0) v (λ y. omega arith));
+        same = ap (λ (x : Booked). x .manager) is ∙ ap (withFree r) (cut-refused l (r .free) i (d .send .start .0) (d .send .end .0) v (λ y. omega arith)) ∙ own-list r (facts r ok);
       }))
       (cut-number l (r .free) i (d .send .start .0) (d .send .end .0) v)
 
@@ -145,5 +153,5 @@ module _ (r : FreeVolume) (at : Date) (b : Bundle) (d : TxData) (ok : recordOk r
       let at-list = offered-at l (topOf l) (listed (r .free)) (x .place) _ _ _ o .0 in
       let some = cut-some l (topOf l) (r .contact .window .end .0) (d .send .start .0) (d .send .end .0) (b .size .0) (listed (r .free)) (x .place) (omega (arith, at-list)) in
       let rules = cut-listed l (topOf l) (r .contact .window .end .0) (d .send .start .0) (d .send .end .0) (b .size .0) (listed (r .free)) _ (x .place) (q .free) o in
-      rw (x .manager) (record-kept _ (q .test) (kept-in l _ _ _ some (x .few) rules)))
+      rw (x .manager) (record-kept _ (q .test) (kept-in l _ _ _ some (x .few) rules) refl))
       book-cases

@@ -1,4 +1,5 @@
 pub mod Facts
 pub mod Calls
 pub mod Kept
+pub mod RoomBounds
 pub mod Unique

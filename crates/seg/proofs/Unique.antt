@@ -20,6 +20,8 @@ use Rattle.seg.proofs.FreeVolume.book_kept.Reads as book-kept-reads
 use Rattle.seg.proofs.FreeVolume.book.Reads as book-reads
 use Rattle.seg.proofs.FreeVolume.cut.Reads as cut-reads
 use Rattle.seg.proofs.FreeVolume.list.Reads as list-reads
+use Rattle.seg.proofs.FreeVolume.room_kept.Reads as room-kept-reads
+use Rattle.seg.proofs.FreeVolume.room.Reads as room-reads
 
 pub open-unique : (w : Interval) (rates : List RateSegment) (m : ℕ) (delays : List DelaySegment) (k : ℕ) → Determined (open-reads.Post tt (w, (rates, (m, (delays, (k, tt))))))
 open-unique w rates m delays k r q x y f g = f ∙ sym g
@@ -44,7 +46,13 @@ module _ (self : FreeVolume) where
   book-unique at b d r q x y f g = f ∙ sym g
 
   pub cut-unique : (place : ℕ) (send : Interval) (size : Volume) → Determined (cut-reads.Post tt (self, (place, (send, (size, tt)))))
-  cut-unique place send size r q x y f g = f ∙ sym g
+  cut-unique place send size r q x y f g = f .0 ∙ sym (g .0)
 
   pub list-unique : Determined (list-reads.Post tt (self, tt))
   list-unique r q x y f g = f ∙ sym g
+
+  pub room-kept-unique : Determined (room-kept-reads.Post tt (self, tt))
+  room-kept-unique r q x y f g = f ∙ sym g
+
+  pub room-unique : Determined (room-reads.Post tt (self, tt))
+  room-unique r q x y f g = f ∙ sym g

@@ -1,5 +1,6 @@
 -- 01, "Refusal numbers", Booking: 1, 2, 9, then 10; a refusal hands the record back as it came.
 use Prim.Native.Nat.{ℕ}
+use lib.Dec.{eqb}
 use Rattle.units.specs.declared.Date.{Date}
 use Rattle.units.specs.declared.Interval.{Interval}
 use Rattle.units.specs.declared.TxData.{TxData}
@@ -14,7 +15,7 @@ use Rattle.free_list.specs.Cut.{cutList}
 use Rattle.seg.specs.declared.FreeVolume.{FreeVolume}
 use Rattle.seg.specs.declared.Booked.{Booked}
 use Rattle.contact.specs.Record.{ratesOf}
-use Rattle.seg.specs.Record.{recordOk}
+use Rattle.seg.specs.Record.{recordOk, withFree}
 use Rattle.seg.specs.DryRun.{dryRunOf, foundOf}
 
 abbrev pub refusedBooking : ℕ → FreeVolume → Booked
@@ -28,7 +29,7 @@ cutFree r i send v = cutList (ratesOf (r .contact)) (r .free) i (send .start .0)
 abbrev pub bookedOf : FreeVolume → ℕ → Interval → ℕ → Booked
 bookedOf r i send v =
     let done : Cut = cutFree r i send v in
-    record { number = done .number; manager = record { contact = r .contact; free = done .list } }
+    unless (eqb (done .number) 0) (refusedBooking (done .number) r) (record { number = 0; manager = withFree r (done .list) })
 
 -- the cut at what the dry run found
 abbrev pub bookedAt : FreeVolume → Found → ℕ → Booked

@@ -3,4 +3,5 @@ pub mod Open
 pub mod DryRun
 pub mod Book
 pub mod List
+pub mod Room
 pub mod Granted

@@ -14,18 +14,20 @@ use units::TxData;
 use units::Volume;
 ghost use mathlib.Core.Path.{_≡_};
 ghost use mathlib.Core.Bool.{true};
-ghost use Rattle.free_list.specs.Granted.{Inside};
+ghost use Rattle.free_list.specs.Granted.{Inside, Changes};
 ghost use Rattle.seg.specs.Open.{openOf, refusedOpening};
 ghost use Rattle.seg.specs.Record.{recordOk};
 ghost use Rattle.seg.specs.DryRun.{dryRunOf};
 ghost use Rattle.seg.specs.Book.{bookOf, cutFree, refusedBooking};
 ghost use Rattle.seg.specs.List.{listOf};
+ghost use Rattle.seg.specs.Room.{roomIn, refusedRoom, roomAnswer};
 ghost use Rattle.seg.specs.Granted.{chosenOf};
 
 #[repr(C)]
 pub struct FreeVolume {
     pub contact: Contact,
     pub free: FreeList,
+    pub room: Volume,
 }
 
 // The answer of an opening: 01's number and the record, which is zero on a refusal.
@@ -49,6 +51,25 @@ pub struct Listing {
     pub list: FreeList,
 }
 
+// The answer of the room: 01's number and the sum of the listed volumes, 0 on a refusal.
+#[repr(C)]
+pub struct RoomLeft {
+    pub number: u8,
+    pub room: Volume,
+}
+
+impl RoomLeft {
+    // A refusal shows no room.
+    fn refused(number: u8) -> RoomLeft
+        ensures { λ r. ⌜ r ≡ refusedRoom number ⌝ }
+    {
+        RoomLeft {
+            number: number,
+            room: Volume(0),
+        }
+    }
+}
+
 impl FreeVolume {
     fn refused_opening(number: u8) -> Opened
         ensures { λ r. ⌜ r ≡ refusedOpening number ⌝ }
@@ -61,6 +82,7 @@ impl FreeVolume {
             manager: FreeVolume {
                 contact: contact,
                 free: free,
+                room: Volume(0),
             },
         }
     }
@@ -97,6 +119,7 @@ impl FreeVolume {
             manager: FreeVolume {
                 contact: contact,
                 free: free,
+                room: total,
             },
         }
     }
@@ -110,6 +133,7 @@ impl FreeVolume {
         let window = contact.window;
         let rates = contact.rates;
         let m = contact.rate_count;
+        let room = self.room;
         let segments = free.segments;
         let n = free.count;
         if !contact.ok() {
@@ -121,7 +145,7 @@ impl FreeVolume {
         if FreeList::COUNT_MAX < n {
             return false;
         }
-        if !free_list::walk::listed_ok(rates, m, segments, n, window) {
+        if !free_list::walk::listed_ok(rates, m, segments, n, window, room) {
             return false;
         }
         free_list::unused(segments, n)
@@ -196,8 +220,13 @@ impl FreeVolume {
         let size = bundle.size;
         let done = self.cut(place, send, size);
         let left = done.list;
+        let off = done.off;
+        let on = done.on;
+        let was = self.room;
+        let room = free_list::changed(was, off, on);
         let mut next = self;
         next.free = left;
+        next.room = room;
         Booked {
             number: done.number,
             manager: next,
@@ -217,13 +246,35 @@ impl FreeVolume {
     // What a booking leaves of the list, on a record that keeps its rules.
     pub fn cut(self, place: usize, send: Interval, size: Volume) -> Cut
         requires { ⌜ recordOk self ≡ true ⌝ ∗ ⌜ Inside (self .free) place (size .0) ⌝ }
-        ensures { λ r. ⌜ r ≡ cutFree self place send (size .0) ⌝ }
+        ensures { λ r. ⌜ r ≡ cutFree self place send (size .0) ⌝ ∗ ⌜ Changes (self .room .0) r ⌝ }
     {
         let contact = self.contact;
         let rates = contact.rates;
         let m = contact.rate_count;
         let free = self.free;
         free.cut(rates, m, place, send, size)
+    }
+
+    // The room on a record that keeps its rules.
+    pub fn room_kept(self) -> Volume
+        requires { ⌜ recordOk self ≡ true ⌝ }
+        ensures { λ r. ⌜ r ≡ roomIn self ⌝ }
+    {
+        self.room
+    }
+
+    // The sum of the listed volumes: 1.
+    pub fn room(self) -> RoomLeft
+        ensures { λ r. ⌜ r ≡ roomAnswer self ⌝ }
+    {
+        if !self.ok() {
+            return RoomLeft::refused(units::refusal::RECORD);
+        }
+        let room = self.room;
+        RoomLeft {
+            number: 0,
+            room: room,
+        }
     }
 
     // The listed segments: 1.

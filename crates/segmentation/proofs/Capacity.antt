@@ -1,17 +1,18 @@
 -- Laws of the capacity: it splits at a tick and over the segments, and stands still past the window's end.
-use Prim.Native.Nat.{ℕ, zero, suc, _+_, _-_, _*_, _<_, _≤_, min, max}
+use Prim.Native.Nat.{ℕ, zero, suc, _+_, _-_, _*_, _<_, _≤_, _^_, min, max}
 use mathlib.Core.Path.{_≡_, refl, sym, ap, _∙_}
 use mathlib.Core.List.{List, [], _∷_}
 use mathlib.Core.Logic.{⊎-elim}
-use native.Mathlib.Nat.{add-zero, add-suc, add-assoc, mul-zero, mul-suc}
+use native.Mathlib.Nat.{add-zero, add-suc, add-assoc, mul-zero, mul-suc, mul-le-mul-left}
 use native.Mathlib.Omega.{arith}
 use lib.Dec.{leb, ltb}
+use lib.ListN.{length}
 use borrow.Author.Tests.{le-leb, lt-leb, lt-ltb, le-ltb}
 use Rattle.units.specs.Logic.{both}
 use Rattle.units.proofs.Logic.{both-stop, both-not, both-yes, pick-keeps}
 use Rattle.units.proofs.Numbers.{le-or-lt}
 use Rattle.segmentation.specs.declared.VolumeSegment.{VolumeSegment}
-use Rattle.segmentation.specs.Granted.{SegOk, Run}
+use Rattle.segmentation.specs.Granted.{SegOk, Run, Runs}
 use Rattle.segmentation.specs.Capacity.{rateOf, rateAt, capOf, capacity, topOf}
 use Rattle.segmentation.specs.End.{closeOf}
 
@@ -185,6 +186,18 @@ module _ (s : VolumeSegment) (ok : SegOk s) where
         (le-or-lt b (s .end .0)) in
         omega (arith, first, then, none, here, last)
 
+    -- they share at most the segment
+    part-most : capacity (s ∷ []) a b ≤ s .volume .0
+    part-most =
+        let lo = max a (s .start .0) in
+        let hi = min b (s .end .0) in
+        ⊎-elim
+        (λ (z : hi ≤ lo). omega (arith, part-not lo hi refl refl z))
+        (λ (z : lo < hi).
+        let m : rateOf s * (hi - lo) ≤ rateOf s * (s .end .0 - s .start .0) = mul-le-mul-left (rateOf s) (omega arith) in
+        omega (arith, part-is lo hi refl refl z, m, ok .whole))
+        (le-or-lt hi lo)
+
 -- the sum of the segments' volumes
 unfoldable pub volumeSum : List VolumeSegment → ℕ
 volumeSum [] = 0
@@ -203,3 +216,20 @@ total-is (s ∷ l) a r =
     let p = cap-past s l (s .end .0) (closeOf (s .end .0) l - s .end .0) (omega arith) in
     let w : s .volume .0 ≡ rateOf s * (s .end .0 - a) = ok .whole ∙ ap (λ (x : ℕ). rateOf s * (s .end .0 - x)) at in
     omega (arith, total-is l (s .end .0) (r .2), e, q, p, w)
+
+-- and no span carries more
+pub capacity-most : (l : List VolumeSegment) (f a b : ℕ) → Run f l → capacity l a b ≤ volumeSum l
+unfolding Run volumeSum
+capacity-most [] f a b r = omega (arith, cap-none a (b - a))
+capacity-most (s ∷ l) f a b r =
+    let ok : SegOk s = r .1 in
+    omega (arith, cap-add s l a (b - a) (omega (arith, ok .some)) (r .2), part-most s ok a b, capacity-most l (s .end .0) a b (r .2))
+
+sum-most : (l : List VolumeSegment) (f : ℕ) → Run f l → volumeSum l ≤ length l * 2 ^ 38
+unfolding Run volumeSum
+sum-most [] f r = omega arith
+sum-most (s ∷ l) f r = let ok : SegOk s = r .1 in omega (arith, ok .small, sum-most l (s .end .0) (r .2))
+
+-- so what some segments carry fits, whatever they are
+pub capacity-fits : (l : List VolumeSegment) (a b : ℕ) → Runs l → capacity l a b ≤ length l * 2 ^ 38
+capacity-fits l a b q = omega (arith, capacity-most l (q .from) a b (q .run), sum-most l (q .from) (q .run))

@@ -1,5 +1,5 @@
 -- What is held keeps its rules: a call's rules hold for the record of its kind, and what a booking or a queueing call leaves keeps them.
-use Prim.Native.Nat.{ℕ, _≤_}
+use Prim.Native.Nat.{ℕ, _+_, _-_, _≤_}
 use mathlib.Core.Bool.{true}
 use mathlib.Core.List.{List}
 use mathlib.Core.Path.{_≡_, sym, ap, _∙_}
@@ -7,16 +7,18 @@ use lib.Dec.{eqb}
 use Rattle.units.specs.declared.Date.{Date}
 use Rattle.units.specs.declared.Bundle.{Bundle}
 use Rattle.units.specs.declared.TxData.{TxData}
+use Rattle.units.specs.declared.Volume.{Volume}
 use Rattle.units.specs.declared.Offer.{Offer}
 use Rattle.units.specs.Granted.{refusalOf}
 use Rattle.units.proofs.Logic.{pick-keeps}
 use Rattle.free_list.specs.declared.Chosen.{Chosen}
 use Rattle.free_list.specs.declared.Cut.{Cut}
-use Rattle.free_list.specs.Granted.{Inside}
+use Rattle.free_list.specs.Granted.{Inside, Changes}
 use Rattle.seg.specs.declared.Booked.{Booked as FreeBooked}
-use Rattle.seg.specs.Record.{recordOk as freeOk}
+use Rattle.seg.specs.Record.{recordOk as freeOk, withLeft, withFree as withVolumes}
 use Rattle.seg.specs.Book.{cutFree as cutVolumes}
 use Rattle.seg.specs.Granted.{chosenOf as chosenFree}
+use Rattle.seg.proofs.Facts.{left-is}
 use Rattle.seg.proofs.Calls.{chosen-done as free-done}
 use Rattle.seg.proofs.Kept.{book-keeps as free-book}
 use Rattle.bookings.specs.declared.Set.{Set}
@@ -75,13 +77,13 @@ module _ (h : Held) (ok : heldOk h ≡ true) where
       pub free-inside : Inside (h .free .free) (c .place) (b .size .0)
       free-inside = rw is (free-done _ _ _ (free-ok e) d free-none .1)
 
-      pub free-cut : {x : Cut} → x ≡ cutVolumes (h .free) (c .place) (d .send) (b .size .0)
-          → heldOk (record { kind = h .kind; free = record { contact = h .free .contact; free = x .list }; priority = h .priority; polynomial = h .polynomial; queue = h .queue }) ≡ true
+      pub free-cut : {x : Cut} {n : Volume} → (x ≡ cutVolumes (h .free) (c .place) (d .send) (b .size .0)) × Changes (h .free .room .0) x → n .0 ≡ h .free .room .0 - x .off .0 + x .on .0
+          → heldOk (record { kind = h .kind; free = withLeft (h .free) (x .list) n; priority = h .priority; polynomial = h .polynomial; queue = h .queue }) ≡ true
       unfolding okAs
-      free-cut cut =
+      free-cut cut room =
           of-kind _ e e
           (λ r.
-          let left = ap (λ (y : Cut). record { contact = h .free .contact; free = y .list }) (cut ∙ ap (λ (y : Chosen). cutVolumes (h .free) (y .place) (d .send) (b .size .0)) is) in
+          let left = left-is (h .free) _ _ (cut .1) room ∙ ap (λ (y : Cut). withVolumes (h .free) (y .list)) (cut .0 ∙ ap (λ (y : Chosen). cutVolumes (h .free) (y .place) (d .send) (b .size .0)) is) in
           ap freeOk (left ∙ sym (ap (λ (y : FreeBooked). y .manager) (free-done _ _ _ r d free-none .0))) ∙ free-book _ at b d r)
 
     module _ {c : Chosen} (e : h .kind ≡ Polynomial) (is : c ≡ chosenPolynomial (h .polynomial) at b) (none : refusalOf (c .offer) d ≡ 0) where

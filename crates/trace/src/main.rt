@@ -206,7 +206,12 @@ fn feed(reply: &mut [u8], out: &mut [u8; LINE], chunk: &[u8], start: usize, firs
                         let place = c.place;
                         let d = free.cut(place, send, size);
                         let left = d.list;
+                        let off = d.off;
+                        let on = d.on;
+                        let was = free.room;
+                        let room = free_list::changed(was, off, on);
                         free.free = left;
+                        free.room = room;
                         n = answer::put_number(out, d.number);
                         continue;
                     }
@@ -319,6 +324,23 @@ fn feed(reply: &mut [u8], out: &mut [u8; LINE], chunk: &[u8], start: usize, firs
                 queue = o.manager;
                 kind = Kind::Queue;
                 continue;
+            }
+            Frame::Room => {
+                match kind {
+                    Kind::Nothing => {
+                        n = answer::put_number(out, units::refusal::RECORD);
+                        continue;
+                    }
+                    Kind::Free => {
+                        let room = free.room_kept();
+                        n = answer::put_room(out, 0, room);
+                        continue;
+                    }
+                    _ => {
+                        n = answer::put_number(out, units::refusal::SELF_UPDATE);
+                        continue;
+                    }
+                }
             }
         }
     }

@@ -20,6 +20,9 @@ put-offer-requires c κs = search needs
 list-requires : tie.Need-list-requires
 list-requires c κs = search needs
 
+room-requires : tie.Need-room-requires
+room-requires c κs = search needs
+
 put-number-requires : tie.Need-put-number-requires
 put-number-requires c κs = search needs
 
@@ -40,9 +43,16 @@ returns-2 c =
     stored-as _ (show-as (a .line .now) (a .held) (m .before .byte-at .ensures) (m .match .keys2) refl) (c .list .ensures)
 
 returns-3 : tie.Need-returns-3
+unfolding showOf on
 returns-3 c =
     let m = c .before .before in
-    stored-as _ (show-none _ _ (m .before .byte-at .ensures) (m .match .rest .0 .1) (m .match .rest .1)) (c .put-number .ensures)
+    let a = m .before .before .before .args in
+    stored-as _ (show-as (a .line .now) (a .held) (m .before .byte-at .ensures) (m .match .keys3) refl) (c .room .ensures)
+
+returns-4 : tie.Need-returns-4
+returns-4 c =
+    let m = c .before .before in
+    stored-as _ (show-none _ _ (m .before .byte-at .ensures) (m .match .rest .0 .0 .1) (m .match .rest .0 .1) (m .match .rest .1)) (c .put-number .ensures)
 
 pub show-spec : {M : Type 1} → statement M
 show-spec =
@@ -52,7 +62,9 @@ show-spec =
     offer-requires
     put-offer-requires
     list-requires
+    room-requires
     put-number-requires
     returns
     returns-2
-    returns-3)
+    returns-3
+    returns-4)

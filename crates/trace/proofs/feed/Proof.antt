@@ -6,6 +6,7 @@ use mathlib.Core.Bool.{true}
 use lib.ListN.{length}
 use Rattle.held.specs.Rules.{okAs, heldOk}
 use Rattle.held.specs.declared.Held.{Held}
+use Rattle.free_list.proofs.CutRoom.{changed-asks}
 use Rattle.trace.proofs.Keeps.{free-ok, priority-ok, polynomial-ok, queue-ok, free-inside, free-cut, polynomial-inside, polynomial-cut, priority-most, priority-set, queue-booked, queueing-kept}
 use borrow.Author.Needs.{needs}
 use Rattle.trace.proofs.feed.Statement.{statement}
@@ -193,17 +194,21 @@ cut-requires c κs =
     let s = k .before .before .before .before .before .before .before .before .before .before in
     (free-ok _ (kept s) (k .before .enum-told10 .given .1), free-inside _ (kept s) _ _ _ (k .before .enum-told10 .given .1) (k .chosen3 .ensures) (sym (r .refusal .ensures) ∙ c .if1 .left))
 
+changed-requires : tie.Need-changed-requires Inv-loop μ-loop
+changed-requires c κs = changed-asks _ _ (c .before .before .before .before .cut .ensures .1)
+
 loop-less-9 : tie.Need-loop-less-9 Inv-loop μ-loop
-loop-less-9 c = less (c .before .before .before .before .before .before .before .before .before .before .before .before .before .before .before .before .before)
+loop-less-9 c = less (c .before .before .before .before .before .before .before .before .before .before .before .before .before .before .before .before .before .before .before .before .before)
 
 loop-again-9 : tie.Need-loop-again-9 Inv-loop μ-loop
 loop-again-9 c =
-    let d = c .before .before .before in
+    let next = c .before .before in
+    let d = next .before .before .before .before .before in
     let e = d .before in
     let r = e .before in
     let k = r .before .before in
     let s = k .before .before .before .before .before .before .before .before .before .before in
-    (turned s, free-cut _ (kept s) _ _ _ (k .before .enum-told10 .given .1) (k .chosen3 .ensures) (sym (r .refusal .ensures) ∙ e .if1 .left) (d .cut .ensures))
+    (turned s, free-cut _ (kept s) _ _ _ (k .before .enum-told10 .given .1) (k .chosen3 .ensures) (sym (r .refusal .ensures) ∙ e .if1 .left) (d .cut .ensures) (next .changed .ensures))
 
 enum-told-11 : tie.Need-enum-told-11 Inv-loop μ-loop
 enum-told-11 c = search needs
@@ -415,6 +420,42 @@ loop-again-26 c =
     let o = c .before .before .before .before in
     (turned (o .before .before .before), o .queue4 .ensures .1 (c .before .if7 .left))
 
+enum-told-22 : tie.Need-enum-told-22 Inv-loop μ-loop
+enum-told-22 c = search needs
+
+enum-told-23 : tie.Need-enum-told-23 Inv-loop μ-loop
+enum-told-23 c = search needs
+
+loop-less-27 : tie.Need-loop-less-27 Inv-loop μ-loop
+loop-less-27 c = less (c .before .before .before .before .before .before)
+
+loop-again-27 : tie.Need-loop-again-27 Inv-loop μ-loop
+loop-again-27 c =
+    let s = c .before .before .before .before .before .before in
+    (turned s, kept s)
+
+enum-told-24 : tie.Need-enum-told-24 Inv-loop μ-loop
+enum-told-24 c = search needs
+
+room-kept-requires : tie.Need-room-kept-requires Inv-loop μ-loop
+room-kept-requires c κs = free-ok _ (kept (c .before .before .before .before)) (c .enum-told24 .given .1)
+
+loop-less-28 : tie.Need-loop-less-28 Inv-loop μ-loop
+loop-less-28 c = less (c .before .before .before .before .before .before .before)
+
+loop-again-28 : tie.Need-loop-again-28 Inv-loop μ-loop
+loop-again-28 c =
+    let s = c .before .before .before .before .before .before .before in
+    (turned s, kept s)
+
+loop-less-29 : tie.Need-loop-less-29 Inv-loop μ-loop
+loop-less-29 c = less (c .before .before .before .before .before)
+
+loop-again-29 : tie.Need-loop-again-29 Inv-loop μ-loop
+loop-again-29 c =
+    let s = c .before .before .before .before .before in
+    (turned s, kept s)
+
 same-length : tie.Need-same-length Inv-loop μ-loop
 same-length c = search needs
 
@@ -482,6 +523,7 @@ feed-spec =
     loop-less-8
     loop-again-8
     cut-requires
+    changed-requires
     nothing-asked
     loop-less-9
     loop-again-9
@@ -555,6 +597,19 @@ feed-spec =
     loop-again-25
     loop-less-26
     loop-again-26
+    enum-told-22
+    enum-told-23
+    nothing-asked
+    loop-less-27
+    loop-again-27
+    enum-told-24
+    room-kept-requires
+    nothing-asked
+    loop-less-28
+    loop-again-28
+    nothing-asked
+    loop-less-29
+    loop-again-29
     nothing-asked
     same-length
     returns)

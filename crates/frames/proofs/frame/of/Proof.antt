@@ -5,7 +5,7 @@ use mathlib.Core.Path.{_≡_, refl, ap, _∙_}
 use borrow.Author.Needs.{needs}
 use Rattle.hex.specs.Digits.{byteAt}
 use Rattle.frames.specs.declared.frame.Frame.{Frame}
-use Rattle.frames.specs.declared.frame.Frame.the-variants.{Wrong, Free, Priority, Polynomial, Queue, Offer, Booking, Listing, Queueing}
+use Rattle.frames.specs.declared.frame.Frame.the-variants.{Wrong, Free, Priority, Polynomial, Queue, Offer, Booking, Listing, Queueing, Room}
 use Rattle.frames.specs.Step.{on}
 use Rattle.frames.specs.Granted.{whenOf, kindFrame, frameOf}
 use Rattle.frames.proofs.Lengths.{line-refused, line-answered}
@@ -88,6 +88,12 @@ has-requires-5 c κs = search needs
 when-requires-9 : tie.Need-when-requires-9
 when-requires-9 c κs = search needs
 
+has-requires-6 : tie.Need-has-requires-6
+has-requires-6 c κs = search needs
+
+when-requires-10 : tie.Need-when-requires-10
+when-requires-10 c κs = search needs
+
 returns-2 : tie.Need-returns-2
 unfolding kindFrame on
 returns-2 c =
@@ -143,11 +149,17 @@ returns-10 c =
     (c .when9 .ensures ∙ ap (λ (t : Bool). whenOf t Queueing) (c .before .has5 .ensures))
 
 returns-11 : tie.Need-returns-11
+unfolding kindFrame on
 returns-11 c =
-    let late = c .match .rest in
+    known (c .before .before .before) (c .before .before .match .keys10)
+    (c .when10 .ensures ∙ ap (λ (t : Bool). whenOf t Room) (c .before .has6 .ensures))
+
+returns-12 : tie.Need-returns-12
+returns-12 c =
+    let late = c .match .rest .0 in
     let early = late .0 .0 .0 .0 .0 in
     digits (c .before)
-    (frame-none _ (c .before .byte-at .ensures) (early .0 .0 .0 .1) (early .0 .0 .1) (early .0 .1) (early .1) (late .0 .0 .0 .0 .1) (late .0 .0 .0 .1) (late .0 .0 .1) (late .0 .1) (late .1))
+    (frame-none _ (c .before .byte-at .ensures) (early .0 .0 .0 .1) (early .0 .0 .1) (early .0 .1) (early .1) (late .0 .0 .0 .0 .1) (late .0 .0 .0 .1) (late .0 .0 .1) (late .0 .1) (late .1) (c .match .rest .1))
 
 pub of-spec : {M : Type 1} → statement M
 of-spec =
@@ -174,6 +186,8 @@ of-spec =
     when-requires-8
     has-requires-5
     when-requires-9
+    has-requires-6
+    when-requires-10
     returns-2
     returns-3
     returns-4
@@ -183,4 +197,5 @@ of-spec =
     returns-8
     returns-9
     returns-10
-    returns-11)
+    returns-11
+    returns-12)

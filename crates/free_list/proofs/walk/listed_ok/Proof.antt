@@ -2,24 +2,26 @@
 -- of the listed segment in hand, up to the rate segment in hand, is found.
 use borrow.Author.Needs.{needs}
 use Prim.Native.Nat.{_+_, _-_, _<_, _≤_}
-use mathlib.Core.Path.{_≡_, refl, sym, ap}
+use mathlib.Core.Path.{_≡_, refl, sym, ap, _∙_}
 use mathlib.Core.List.{List, _∷_}
 use native.Mathlib.Omega.{arith}
+use lib.Dec.{eqb}
 use lib.ListN.{length, take, drop, getD, length-take}
+use Rattle.units.proofs.Logic.{both-go, both-stop}
 use Rattle.units.proofs.Loop.{at-place}
 use Rattle.segmentation.specs.declared.VolumeSegment.{VolumeSegment}
 use Rattle.contact.specs.Segments.{zeroVolume}
 use Rattle.free_list.specs.declared.walk.Walk.{Walk}
 use Rattle.free_list.specs.declared.walk.Taken.the-variants.{Go, No}
-use Rattle.free_list.proofs.WalkLaws.{Going, Answer, loop-turn, walk-ok, walk-end, walk-first, hi-is, hi-small, first-ok, stands-lt, len-take, next-lt, after, seg-at}
+use Rattle.free_list.proofs.WalkLaws.{Going, Answer, loop-turn, walk-ok, walk-end, walk-room, walk-first, hi-is, hi-small, first-ok, stands-lt, len-take, next-lt, after, seg-at}
 use Rattle.free_list.proofs.walk.listed_ok.Statement.{statement}
 use Rattle.free_list.proofs.walk.listed_ok.Tie as tie
 
 abbrev Inv-loop : tie.InvT-loop
-Inv-loop m n rates free hi w₀ i₀ j₀ w i j = Going (take m rates) (take n free) (w₀ .low .0) (hi .0) n w i j
+Inv-loop m n room rates free hi w₀ i₀ j₀ w i j = Going (take m rates) (take n free) (w₀ .low .0) (hi .0) n w i j
 
 abbrev μ-loop : tie.MeasureT-loop
-μ-loop m n rates free hi w₀ i₀ j₀ w i j = (n - i) + (16 - j)
+μ-loop m n room rates free hi w₀ i₀ j₀ w i j = (n - i) + (16 - j)
 
 rates-size : (c : tie.Start Inv-loop μ-loop) → length (c .args .t1) ≡ 16
 rates-size c = search needs
@@ -41,6 +43,9 @@ heads c = at-place (c .args .t1) (c .args .m) 0 _ (rates-fit c) (c .pre .0 .0)
 
 abbrev start : (c : tie.Else1 Inv-loop μ-loop) → tie.Start Inv-loop μ-loop
 start c = c .before .before .before .before .before .before
+
+abbrev start-of : (c : tie.Then1 Inv-loop μ-loop) → tie.Start Inv-loop μ-loop
+start-of c = c .before .before .before .before .before .before
 
 array-copy-out-first : tie.Need-array-copy-out-first Inv-loop μ-loop
 array-copy-out-first c = search needs
@@ -136,8 +141,11 @@ asked c = ap (λ (w : Walk). w .low .0) (c .begin .ensures)
 
 returns : tie.Need-returns Inv-loop μ-loop
 returns c =
-    let q = c .before .loop .inv in
-    rw (← asked (c .before .before)) (sym (walk-end _ _ _ _ _ _ (q .walking) (simp length-take (omega (arith, q .at-i, c .if1 .taken)))))
+    let one = c .before .before .before in
+    let q = one .before .loop .inv in
+    let all : length (free (start-of one)) ≤ one .before .loop .w .i = simp length-take (omega (arith, q .at-i, one .if1 .taken)) in
+    rw (← asked (one .before .before))
+    (sym (both-go _ _ (walk-end _ _ _ _ _ _ (q .walking) all) ∙ ap (eqb (start-of one .args .room .0)) (walk-room _ _ _ _ _ _ (q .walking) all)))
 
 returns-2 : tie.Need-returns-2 Inv-loop μ-loop
 returns-2 c =
@@ -145,7 +153,7 @@ returns-2 c =
     let e = x .before .before .before .before in
     let a = start e in
     let t : Answer (rates a) (free a) (e .before .before .begin .result .low .0) (a .args .window .end .0) (a .args .n) (e .before .loop .w) No = rw (c .enum-told .given .1) at (answer x) in
-    rw (← asked (e .before .before)) (sym t)
+    rw (← asked (e .before .before)) (sym (both-stop _ _ t))
 
 pub listed-ok-spec : {M : Type 1} → statement M
 listed-ok-spec =

@@ -7,7 +7,7 @@ use Rattle.free_list.proofs.walk.turn.Tie as tie
 
 -- the start of the call, from the first test passed and from the last
 abbrev from-one : tie.Else1 → tie.Start
-from-one c = c .before .before .before .before .before .before .before .before .before .before .before .before
+from-one c = c .before .before .before .before .before .before .before .before .before .before .before .before .before
 
 abbrev from-three : tie.Else3 → tie.Start
 from-three c = from-one (c .before .before .before .before .before .before)
@@ -32,18 +32,18 @@ add-now c =
     let a = from-three (p .before) in
     record { fits = omega (arith, p .piece .ensures, room-for (a .args .w) (a .pre .0) (a .args .g .start .0) (a .args .g .end .0), a .pre .0 .small, a .pre .0 .few) }
 
-add-t20 : tie.Need-add-t20
-add-t20 c =
+add-t21 : tie.Need-add-t21
+add-t21 c =
     let a = from-three (c .before .before .before .before .before .before) in
     record { fits = omega (arith, a .pre .0 .few) }
 
-sub-t21 : tie.Need-sub-t21
-sub-t21 c =
+sub-t22 : tie.Need-sub-t22
+sub-t22 c =
     let a = from-three (c .before .before .before .before .before .before .before) in
     omega (arith, a .pre .1 .0 .some)
 
-div-t22 : tie.Need-div-t22
-div-t22 c =
+div-t23 : tie.Need-div-t23
+div-t23 c =
     let a = from-three (c .before .before .before .before .before .before .before .before) in
     omega (arith, a .pre .1 .0 .some)
 
@@ -63,19 +63,27 @@ returns-5 c =
     let two = three .before .before .before in
     sym (turn-short _ _ _ _ (two .before .before .before .if1 .left) (two .if2 .left) (three .if3 .left) (four .if4 .left) (rw (p .piece .ensures) at (c .if5 .taken)))
 
-add-t25 : tie.Need-add-t25
-add-t25 c =
+add-t26 : tie.Need-add-t26
+add-t26 c =
     let a = from-three (c .before .before .before .before .before .before .before .before) in
     record { fits = omega (arith, a .pre .0 .listed) }
 
-add-t26 : tie.Need-add-t26
-add-t26 c =
+add-t27 : tie.Need-add-t27
+add-t27 c =
     let three = c .before .before .before .before .before .before .before .before .before in
     record { fits = omega (arith, three .if3 .left, from-three three .pre .1 .1) }
 
+-- the room with one segment more: what is listed is at most what was found
+add-t29 : tie.Need-add-t29
+add-t29 c =
+    let five = c .before .before .before in
+    let p = five .before .before .before .before .before .before .before in
+    let a = from-three (p .before) in
+    record { fits = omega (arith, five .if5 .left, p .piece .ensures, room-for (a .args .w) (a .pre .0) (a .args .g .start .0) (a .args .g .end .0), a .pre .0 .small, a .pre .0 .few, a .pre .0 .listed, a .pre .0 .bound) }
+
 returns-6 : tie.Need-returns-6
 returns-6 c =
-    let five = c .before in
+    let five = c .before .before .before in
     let four = five .before .before in
     let p = four .before .before .before .before .before in
     let three = p .before in
@@ -91,11 +99,12 @@ turn-spec =
     returns-3
     piece-requires
     add-now
-    add-t20
-    sub-t21
-    div-t22
+    add-t21
+    sub-t22
+    div-t23
     returns-4
     returns-5
-    add-t25
     add-t26
+    add-t27
+    add-t29
     returns-6)

@@ -5,7 +5,9 @@ use Rattle.units.specs.Granted.{refusalOf}
 use Rattle.free_list.specs.declared.FreeList.{FreeList}
 use Rattle.seg.specs.declared.FreeVolume.{FreeVolume}
 use Rattle.seg.specs.Granted.{chosenOf}
+use Rattle.seg.specs.Record.{withFree}
 use Rattle.seg.proofs.Facts.{facts}
+use Rattle.seg.proofs.RoomBounds.{cut-roomy}
 use Rattle.seg.proofs.Calls.{chosen-refused, chosen-done}
 use Rattle.howrekano.specs.Words.{freeVolumeIn, datesIn}
 use Rattle.howrekano.proofs.free.hk_free_book_kept.Statement.{statement}
@@ -40,30 +42,31 @@ refusal-requires c κs = search needs
 returns : tie.Need-returns
 returns c =
     let e = c .before in
-    rw (chosen-refused _ _ _ (start e .pre) _ (λ z. c .if1 .taken (refusal-is e ∙ z))) (refusal-is e, refl)
+    rw (chosen-refused _ _ _ (start e .pre .0) _ (λ z. c .if1 .taken (refusal-is e ∙ z))) (refusal-is e, (refl, start e .pre .1))
 
 cut-requires : tie.Need-cut-requires
 cut-requires c κs =
-    let one = c .before .before .before .before in
+    let one = c .before .before .before .before .before in
     let e = one .before in
-    let ok = start e .pre in
+    let p = start e .pre in
+    let ok = p .0 in
     let q = facts _ ok in (
       q .contact .rates .1,
       (
         record { from = _; run = q .contact .run },
-        rw (e .before .before .chosen .ensures) (chosen-done _ _ _ ok _ (sym (refusal-is e) ∙ one .if1 .left) .1),
+        (rw (e .before .before .chosen .ensures) (chosen-done _ _ _ ok _ (sym (refusal-is e) ∙ one .if1 .left) .1), record { is = p .1; small = cut-roomy _ ok _ _ _ .small }),
       ),
     )
 
 returns-2 : tie.Need-returns-2
 returns-2 c =
-    let one = c .before .before .before .before .before in
+    let one = c .before .before .before .before .before .before in
     let e = one .before in
     let k = e .before .before in
     let s = start e in
     let done = rw (k .chosen .ensures, k .before .before .dates-at .ensures) at (c .cut .ensures) in
-    rw (chosen-done _ _ _ (s .pre) _ (sym (refusal-is e) ∙ one .if1 .left) .0)
-    (done .0, ap (λ (l : FreeList). record { contact = lent s .contact; free = l }) (done .1))
+    rw (chosen-done _ _ _ (s .pre .0) _ (sym (refusal-is e) ∙ one .if1 .left) .0)
+    (done .0, (ap (λ (l : FreeList). withFree (lent s) l) (done .1 .0), done .1 .1))
 
 pub hk-free-book-kept-spec : {M : Type 1} → statement M
 hk-free-book-kept-spec =

@@ -5,9 +5,11 @@ use native.Mathlib.Omega.{arith}
 use Rattle.units.specs.Granted.{refusalOf}
 use Rattle.segmentation.specs.Granted.{Run}
 use Rattle.free_list.specs.declared.FreeList.{FreeList}
+use Rattle.free_list.proofs.CutRoom.{bare-roomy}
 use Rattle.poly_seg.specs.declared.PolySeg.{PolySeg}
 use Rattle.poly_seg.specs.Book.{withFree}
 use Rattle.poly_seg.specs.Granted.{chosenOf}
+use Rattle.poly_seg.proofs.Facts.{facts}
 use Rattle.poly_seg.proofs.Calls.{chosen-refused, chosen-done}
 use Rattle.howrekano.specs.Words.{polynomeIn, polySegIn, datesIn}
 use Rattle.howrekano.proofs.polynomial.hk_polynomial_book_kept.Statement.{statement}
@@ -57,24 +59,27 @@ returns c =
 cut-requires : tie.Need-cut-requires
 unfolding Run
 cut-requires c κs =
-    let one = c .before .before .before in
+    let one = c .before .before .before .before in
     let e = one .before in (
       omega arith,
       (
         record { from = 0; run = tt },
-        rw (chosen-is (e .before .before)) (chosen-done _ _ _ (start e .pre) _ (sym (refusal-is e) ∙ one .if1 .left) .1),
+        (
+          rw (chosen-is (e .before .before)) (chosen-done _ _ _ (start e .pre) _ (sym (refusal-is e) ∙ one .if1 .left) .1),
+          bare-roomy _ _ _ _ _ _ _ (facts _ (start e .pre) .free),
+        ),
       ),
     )
 
 returns-2 : tie.Need-returns-2
 returns-2 c =
-    let one = c .before .before .before .before in
+    let one = c .before .before .before .before .before in
     let e = one .before in
     let k = e .before .before in
     let s = start e in
     let done = rw (chosen-is k, k .before .before .before .dates-at .ensures) at (c .cut .ensures) in
     rw (chosen-done _ _ _ (s .pre) _ (sym (refusal-is e) ∙ one .if1 .left) .0)
-    (done .0, ap (λ (l : FreeList). withFree (lent s) l) (done .1))
+    (done .0, ap (λ (l : FreeList). withFree (lent s) l) (done .1 .0))
 
 pub hk-polynomial-book-kept-spec : {M : Type 1} → statement M
 hk-polynomial-book-kept-spec =

@@ -5,8 +5,12 @@ use mathlib.Core.Path.{_≡_, sym, ap, _∙_}
 use Rattle.units.specs.Granted.{refusalOf}
 use Rattle.free_list.specs.declared.Chosen.{Chosen}
 use Rattle.free_list.specs.declared.Cut.{Cut}
+use Rattle.free_list.proofs.CutRoom.{changed-asks}
+use Rattle.seg.specs.declared.FreeVolume.{FreeVolume}
+use Rattle.seg.specs.declared.Booked.{Booked}
 use Rattle.seg.specs.Book.{refusedBooking, cutFree}
-use Rattle.seg.specs.Granted.{chosenOf}
+use Rattle.seg.specs.Granted.{chosenOf, bookedBy}
+use Rattle.seg.proofs.Facts.{left-is}
 use Rattle.seg.proofs.Calls.{chosen-refused, chosen-done}
 use Rattle.seg.proofs.FreeVolume.book_kept.Statement.{statement}
 use Rattle.seg.proofs.FreeVolume.book_kept.Tie as tie
@@ -43,15 +47,20 @@ cut-requires c κs =
     let ok = k .before .pre in
     (ok, rw (k .chosen .ensures) (chosen-done _ _ _ ok _ (sym (refusal-is e) ∙ one .if1 .left) .1))
 
+changed-requires : tie.Need-changed-requires
+changed-requires c κs = changed-asks _ _ (c .before .before .before .before .cut .ensures .1)
+
 returns-2 : tie.Need-returns-2
 returns-2 c =
-    let one = c .before .before .before .before in
+    let done = c .before .before .before .before .before in
+    let one = done .before .before .before in
     let e = one .before in
     let k = e .before .before in
     let s = k .before in
     let a = s .args in
-    ap (λ (x : Cut). record { number = x .number; manager = record { contact = a .self .contact; free = x .list } })
-    (c .before .cut .ensures ∙ ap (λ (x : Chosen). cutFree (a .self) (x .place) (a .dates .send) (a .bundle .size .0)) (k .chosen .ensures))
+    ap {B = Booked} (λ (m : FreeVolume). record { number = done .cut .result .number; manager = m }) (left-is (a .self) _ _ (done .cut .ensures .1) (c .changed .ensures))
+    ∙ ap (bookedBy (a .self))
+    (done .cut .ensures .0 ∙ ap (λ (x : Chosen). cutFree (a .self) (x .place) (a .dates .send) (a .bundle .size .0)) (k .chosen .ensures))
     ∙ sym (chosen-done _ _ _ (s .pre) _ (sym (refusal-is e) ∙ one .if1 .left) .0)
 
 pub book-kept-spec : {M : Type 1} → statement M
@@ -63,4 +72,5 @@ book-kept-spec =
     refused-booking-requires
     returns
     cut-requires
+    changed-requires
     returns-2)

@@ -1,0 +1,88 @@
+-- What the room is good for, from a fresh opening on: with the exact capacity of the booked instants it is at most the total volume of the
+-- pass, and with the booked sizes at most R - 1 more for each accepted booking.
+use Prim.Native.Nat.{ℕ, _+_, _-_, _*_, _≤_}
+use mathlib.Core.Bool.{true}
+use mathlib.Core.Path.{_≡_, sym, ap, _∙_}
+use mathlib.Core.List.{List, [], _∷_}
+use mathlib.Core.Logic.{⊎-elim}
+use native.Mathlib.Omega.{arith}
+use lib.ListN.{length}
+use borrow.Author.Tests.{eq-eqb, ne-eqb}
+use Rattle.units.specs.declared.Date.{Date}
+use Rattle.units.specs.declared.Interval.{Interval}
+use Rattle.units.specs.declared.TxData.{TxData}
+use Rattle.units.specs.declared.Bundle.{Bundle}
+use Rattle.units.proofs.Determined.{Met}
+use Rattle.segmentation.specs.declared.RateSegment.{RateSegment}
+use Rattle.segmentation.specs.declared.DelaySegment.{DelaySegment}
+use Rattle.segmentation.specs.Capacity.{topOf}
+use Rattle.contact.specs.declared.Contact.{Contact}
+use Rattle.contact.specs.Record.{ratesOf, totalIn}
+use Rattle.seg.specs.declared.FreeVolume.{FreeVolume}
+use Rattle.seg.specs.declared.Opened.{Opened}
+use Rattle.seg.specs.declared.Booked.{Booked}
+use Rattle.seg.specs.Record.{recordOk}
+use Rattle.seg.specs.Book.{bookOf}
+use Rattle.seg.proofs.Kept.{Refused, Accepted, opened-keeps, book-cases, book-keeps}
+use Rattle.seg.proofs.RoomBounds.{listedTime, room-time, time-total, booked-falls}
+use Rattle.seg.proofs.FreeVolume.open.Reads as open-reads
+use Rattle.demand.specs.Calls.{State, Runs, logged}
+use Rattle.demand.specs.Instants.{sizeSum, carried}
+use Rattle.demand.proofs.Held.{capSum, held-sum}
+use Rattle.demand.proofs.Demand.{promised, run-all, demand-3}
+
+-- the exact capacity of the listed time and of the bookings
+record Left (x : State) : Type 0 where
+  pub ok : recordOk (x .manager) ≡ true
+  pub time : listedTime (x .manager) + capSum (ratesOf (x .manager .contact)) (x .log) ≤ totalIn (x .manager .contact)
+
+module _ (x : State) (q : Left x) (at : Date) (b : Bundle) (d : TxData) where
+  abbrev booked : Booked
+  booked = bookOf (x .manager) at b d
+
+  abbrev next : State
+  next = record { manager = booked .manager; log = logged b d booked (x .log) }
+
+  refused-left : Refused (x .manager) booked → Left next
+  refused-left r = rw (r .same, ne-eqb (booked .number) 0 (r .number)) q
+
+  accepted-left : Accepted (x .manager) at b d booked → Left next
+  unfolding capSum
+  accepted-left y =
+      let same : booked .manager .contact ≡ x .manager .contact = ap (λ (m : FreeVolume). m .contact) (y .manager) in
+      rw (eq-eqb (booked .number) 0 (y .number))
+      (record {
+        ok = book-keeps (x .manager) at b d (q .ok);
+        time = omega (
+          arith,
+          ap (λ (c : Contact). capSum (ratesOf c) (record { send = d .send; size = b .size .0 } ∷ x .log)) same,
+          ap totalIn same,
+          booked-falls (x .manager) (q .ok) at b d (y .number),
+          q .time,
+        );
+      })
+
+  book-left : Left next
+  book-left = ⊎-elim refused-left accepted-left (book-cases (x .manager) at b d (q .ok))
+
+run-left : (x y : State) → Left x → Runs promised x y → Left y
+run-left = run-all Left (λ x at b d a is q. rw is (book-left x q at b d))
+
+fresh-left : (o : Opened) → recordOk (o .manager) ≡ true → Left (record { manager = o .manager; log = [] })
+unfolding capSum
+fresh-left o e = record { ok = e; time = omega (arith, time-total (o .manager) e) }
+
+pub room-after : (w : Interval) (rates : List RateSegment) (m : ℕ) (delays : List DelaySegment) (k : ℕ) (o : Opened) (y : State)
+    → length rates ≡ 16 → length delays ≡ 16
+    → Met (open-reads.Post tt (w, (rates, (m, (delays, (k, tt)))))) o → o .number ≡ 0
+    → Runs promised (record { manager = o .manager; log = [] }) y
+    → (y .manager .room .0 + carried y ≤ totalIn (y .manager .contact))
+    × (y .manager .room .0 + sizeSum (y .log) ≤ totalIn (y .manager .contact) + (topOf (ratesOf (y .manager .contact)) - 1) * length (y .log))
+room-after w rates m delays k o y rate-size delay-size p zero runs =
+    let ok : recordOk (o .manager) ≡ true = rw (p .1) (opened-keeps w rates m delays k rate-size delay-size (sym (ap (λ (x : Opened). x .number) (p .1)) ∙ zero)) in
+    let left : Left y = run-left _ y (fresh-left o ok) runs in
+    let three = demand-3 w rates m delays k o y rate-size delay-size p zero runs in
+    let c = y .manager .contact in
+    let e = held-sum (ratesOf c) (c .window) (y .log) (three .inside) (three .apart) in
+    let room = room-time (y .manager) (left .ok) in
+    (omega (arith, room, left .time, e), omega (arith, room, left .time, e, three .near))
