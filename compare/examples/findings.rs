@@ -4,7 +4,8 @@
 //!     ASABR_WRAP=1 cargo run --release --example findings
 //!
 //! The second build has no overflow checks. Nothing here goes through the
-//! oracle's refusals: these are the original's own calls.
+//! oracle's refusals: these are the original's own calls. Only the search for
+//! the smallest rising room asks the oracle, by its frames.
 
 extern crate asabr;
 
@@ -22,7 +23,10 @@ use asabr::contact_manager::segmentation::{Segment, lex};
 use asabr::contact_manager::{ContactManager, ContactManagerTxData};
 use asabr::poly::Polynome;
 use asabr::types::{NodeID, TimeInterval};
+use oracle::frames::{Content, Dates, Frame, Load, Request, Window};
 use oracle::generate::rng::Rng;
+use oracle::stated::plain;
+use oracle::{Oracle, calls};
 
 fn main() {
     panic::set_hook(Box::new(|_| {}));
@@ -34,6 +38,7 @@ fn main() {
     never_offered();
     without_length();
     rising_volume();
+    smallest_rising_room();
     divisions();
     polynomials();
     priorities();
@@ -374,6 +379,117 @@ fn divisions() {
     let contact = queue(LegacyManager::<false, true, 1, 0>::new(0, 3));
     println!("queue, rate 0, size 1: {}", offered(&contact, 0, 1, 0));
     println!("queue, rate 0, size 0: {}", offered(&contact, 0, 0, 0));
+}
+
+// ---------------------------------------------------------------------------
+// The room (document 02, R-1): the sum of the listed volumes
+
+/// The most that is tried of each. Longer windows and higher rates would not
+/// show fewer bookings: a cut gives back what earlier bookings took beyond the
+/// capacity of their sends. Before the first booking that is nothing. Before the
+/// second it is less than one tick carries, and only if the list is one segment
+/// up to the window's end, of which any cut takes a tick or more.
+const MOST_BOOKINGS: usize = 3;
+const LONGEST: i64 = 5;
+const HIGHEST: i64 = 5;
+
+type Booking = (Request, Dates);
+
+/// Fewest bookings, then the shortest window, then the lowest rate, then the
+/// smallest sizes, then the earliest asked times. Every asked time up to the
+/// window's end and every size up to the total is tried: no others are offered.
+fn smallest_rising_room() {
+    title("the smallest input by which the room rises (one rate, delay 0, window from 0)");
+    for bookings in 1..=MOST_BOOKINGS {
+        let lengths = 1..=LONGEST;
+        let openings = lengths.flat_map(|end| (0..=HIGHEST).map(move |rate| (end, rate)));
+        for (end, rate) in openings {
+            let open = Frame::OpenFree(plain(Window { start: 0, end }, rate, 0));
+            let paths = rising_paths(&open, &every_request(end, rate), bookings);
+            if let Some(smallest) = paths.iter().min_by_key(|path| sizes_and_times(path)) {
+                println!("by {bookings} bookings: window [0,{end}), rate {rate}");
+                return show_rooms(&open, smallest);
+            }
+        }
+        println!("by {bookings}: none, windows to [0,{LONGEST}) and rates to {HIGHEST} tried");
+    }
+}
+
+fn every_request(end: i64, rate: i64) -> Vec<Request> {
+    let request = |time, size| Request {
+        time,
+        load: Load { size, priority: 0 },
+    };
+    (0..=end)
+        .flat_map(|time| (1..=rate * end).map(move |size| request(time, size)))
+        .collect()
+}
+
+fn sizes_and_times(path: &[Booking]) -> (Vec<i64>, Vec<i64>) {
+    let requests = path.iter().map(|(request, _)| request);
+    requests
+        .map(|request| (request.load.size, request.time))
+        .unzip()
+}
+
+/// Every path of so many bookings whose last one makes the room rise.
+fn rising_paths(open: &Frame, asked: &[Request], bookings: usize) -> Vec<Vec<Booking>> {
+    let mut paths = vec![Vec::new()];
+    for _ in 0..bookings {
+        paths = paths
+            .iter()
+            .flat_map(|path| each_further(open, asked, path))
+            .collect();
+    }
+    paths.retain(|path| {
+        let before = &path[..path.len() - 1];
+        room(&mut walk(open, path)) > room(&mut walk(open, before))
+    });
+    paths
+}
+
+/// The path with each booking that is offered after it.
+fn each_further(open: &Frame, asked: &[Request], path: &[Booking]) -> Vec<Vec<Booking>> {
+    let oracle = walk(open, path);
+    let offered = asked
+        .iter()
+        .filter_map(|request| Some((*request, oracle.dry_run(*request).ok()?)));
+    offered.map(|booking| [path, &[booking]].concat()).collect()
+}
+
+/// The oracle after the opening and these bookings.
+fn walk(open: &Frame, path: &[Booking]) -> Oracle {
+    let mut oracle = Oracle::new();
+    oracle.answer_frame(open).expect("an opening");
+    for (request, dates) in path {
+        let booked = oracle.answer_frame(&Frame::Book(*request, *dates));
+        booked.expect("a booking of what was offered");
+    }
+    oracle
+}
+
+fn room(oracle: &mut Oracle) -> i64 {
+    match oracle.answer_frame(&Frame::Room) {
+        Ok(Content::Room(sum)) => sum,
+        other => panic!("no room: {other:?}"),
+    }
+}
+
+fn show_rooms(open: &Frame, path: &[Booking]) {
+    for made in 0..=path.len() {
+        let about = match path[..made].last() {
+            Some((Request { time, load }, Dates([start, end, ..]))) => {
+                format!("size {} at {time}, send {start},{end}", load.size)
+            }
+            None => "opened".into(),
+        };
+        let mut oracle = walk(open, &path[..made]);
+        let Ok(Content::Segments(spans)) = oracle.answer_frame(&Frame::List) else {
+            panic!("a free record lists segments");
+        };
+        let list = shown(&calls::segments(&spans));
+        println!("{about}: lists {list}; the room is {}", room(&mut oracle));
+    }
 }
 
 // ---------------------------------------------------------------------------

@@ -1,5 +1,5 @@
-//! Lines and what they say: the layouts of document 01's trace program, and
-//! nothing about what a frame means.
+//! Lines and what they say: the layouts of document 01's trace program and of
+//! frame 15 (document 02, R-1), and nothing about what a frame means.
 
 use crate::refusal::{DONE, Refusal};
 
@@ -20,6 +20,7 @@ pub mod kind {
     pub const LIST: u8 = 0x12;
     pub const ENQUEUE: u8 = 0x13;
     pub const DEQUEUE: u8 = 0x14;
+    pub const ROOM: u8 = 0x15;
 }
 
 /// The bits of a queue opening's flags.
@@ -98,6 +99,7 @@ pub enum Frame {
     List,
     Enqueue(Load),
     Dequeue(Load),
+    Room,
 }
 
 /// What follows an answer's zero.
@@ -107,6 +109,8 @@ pub enum Content {
     Offer(Dates),
     Segments(Vec<Span>),
     Queues(Vec<i64>),
+    /// The sum of the listed free volumes.
+    Room(i64),
 }
 
 pub type Answer = Result<Content, Refusal>;
@@ -216,6 +220,7 @@ fn read_frame(reader: &mut Reader) -> Option<Frame> {
         kind::LIST => Some(Frame::List),
         kind::ENQUEUE => Some(Frame::Enqueue(reader.load()?)),
         kind::DEQUEUE => Some(Frame::Dequeue(reader.load()?)),
+        kind::ROOM => Some(Frame::Room),
         _ => None,
     }
 }
@@ -338,6 +343,7 @@ impl Frame {
             Frame::List => kind::LIST,
             Frame::Enqueue(_) => kind::ENQUEUE,
             Frame::Dequeue(_) => kind::DEQUEUE,
+            Frame::Room => kind::ROOM,
         }
     }
 
@@ -354,7 +360,7 @@ impl Frame {
                 writer.request(*request);
                 writer.numbers(&dates.0);
             }
-            Frame::List => {}
+            Frame::List | Frame::Room => {}
             Frame::Enqueue(load) | Frame::Dequeue(load) => writer.load(*load),
         }
         line
@@ -380,5 +386,6 @@ pub fn encode_answer(answer: &Answer, line: &mut Vec<u8>) {
             writer.byte(queues.len() as u8);
             writer.numbers(queues);
         }
+        Content::Room(sum) => writer.number(*sum),
     }
 }

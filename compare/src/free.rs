@@ -1,6 +1,7 @@
 //! The free-volume manager.
 
 use asabr::contact_manager::segmentation::seg::{SegmentationManager, peek};
+use asabr::types::Volume;
 
 use crate::calls;
 use crate::frames::{RatedOpening, Span};
@@ -45,5 +46,11 @@ impl Lists for SegmentationManager {
             })
         });
         spans.collect()
+    }
+
+    fn room(&self) -> Result<i64, Refusal> {
+        let mut listed = peek::listed(self).iter();
+        let sum = listed.try_fold(0, |sum: Volume, segment| sum.checked_add(segment.val));
+        calls::number(sum.ok_or(Refusal::Fault)?)
     }
 }

@@ -1,4 +1,6 @@
-//! The original contact managers behind document 01's frames.
+//! The original contact managers behind document 01's frames, and behind frame
+//! 15 of document 02's R-1: the original has no such figure, so its own list is
+//! added up.
 //!
 //! Data goes one way: line, frame ([`frames`]), record ([`state`]), the
 //! original's calls ([`calls`]), answer, line. Above that stand the dialogues

@@ -147,4 +147,9 @@ impl Record for Queue {
         limits::test_load(load)?;
         self.change_within_bounds(|contact| calls::dequeue(contact, load))
     }
+
+    /// Queues are no free volumes.
+    fn room(&self) -> Result<i64, Refusal> {
+        Err(Refusal::NotManual)
+    }
 }

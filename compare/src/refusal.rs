@@ -4,8 +4,9 @@
 #[derive(Clone, Copy, Debug, PartialEq, Eq)]
 #[repr(u8)]
 pub enum Refusal {
-    /// The record breaks its rules. Records come from openings only here, so
-    /// this is always "nothing is open".
+    /// The record breaks its rules. Records come from openings only here, and
+    /// no sum is stored that could differ from its list, so this is always
+    /// "nothing is open".
     NothingOpen = 1,
     Bundle = 2,
     Window = 3,
@@ -17,6 +18,9 @@ pub enum Refusal {
     NotOffered = 9,
     ListFull = 10,
     Polynomial = 11,
+    /// Manual queueing on a self-updating manager, or a frame that another
+    /// manager answers: 13 and 14 on all but the queue manager, 15 on all but
+    /// the free-volume manager.
     NotManual = 12,
     QueueBound = 13,
     Classes = 14,

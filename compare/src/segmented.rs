@@ -16,6 +16,12 @@ pub trait Lists: ContactManager + Clone {
 
     fn listed(&self) -> usize;
     fn spans(&self) -> Result<Vec<Span>, Refusal>;
+
+    /// The sum of the listed volumes, added up anew each time: the original
+    /// keeps none. Only the free-volume manager lists volumes.
+    fn room(&self) -> Result<i64, Refusal> {
+        Err(Refusal::NotManual)
+    }
 }
 
 pub struct Segmented<M: Lists> {
@@ -66,5 +72,9 @@ impl<M: Lists> Record for Segmented<M> {
     /// 12 whatever the load: the trait's own method answers `false`.
     fn dequeue(&mut self, load: Load) -> Result<(), Refusal> {
         calls::dequeue(&mut self.contact, load)
+    }
+
+    fn room(&self) -> Result<i64, Refusal> {
+        self.contact.manager.room()
     }
 }

@@ -14,6 +14,9 @@ pub trait Record {
     fn list(&self) -> Result<Content, Refusal>;
     fn enqueue(&mut self, load: Load) -> Result<(), Refusal>;
     fn dequeue(&mut self, load: Load) -> Result<(), Refusal>;
+    /// The sum of the listed free volumes (document 02, R-1). 12 where no
+    /// volumes are listed.
+    fn room(&self) -> Result<i64, Refusal>;
 }
 
 pub type Opened = Result<Box<dyn Record>, Refusal>;
@@ -99,6 +102,7 @@ impl Oracle {
             Frame::List => self.record()?.list(),
             Frame::Enqueue(load) => done(self.record()?.enqueue(*load)),
             Frame::Dequeue(load) => done(self.record()?.dequeue(*load)),
+            Frame::Room => self.record()?.room().map(Content::Room),
         }
     }
 

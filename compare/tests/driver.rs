@@ -33,7 +33,15 @@ fn wrong_program(name: &str, script: &str) -> PathBuf {
 
 #[test]
 fn the_oracle_does_not_differ_from_itself() {
-    for kind in ["free", "priority", "poly", "queue", "malformed", "all"] {
+    for kind in [
+        "free",
+        "priority",
+        "poly",
+        "queue",
+        "malformed",
+        "room",
+        "all",
+    ] {
         let output = compare(Path::new(ORACLE), &["--kind", kind, "--seed", "7"]);
         assert!(output.status.success(), "{kind}: {}", text(&output));
         let text = text(&output);
@@ -53,11 +61,51 @@ fn a_difference_is_shrunk_to_an_opening_and_a_dry_run() {
     assert_eq!(output.status.code(), Some(1));
     let text = text(&output);
     let lines: Vec<&str> = text.lines().collect();
-    assert_eq!(lines.len(), 6, "{text}");
+    assert_eq!(lines.len(), 7, "{text}");
     assert!(lines[1].starts_with("03"), "{text}");
     assert!(lines[2].starts_with("10"), "{text}");
     assert_eq!(lines[3..5], ["expected 08", "answered 07"]);
-    assert!(lines[5].starts_with("compared "), "{text}");
+    assert!(lines[5].starts_with("of them "), "{text}");
+    assert!(lines[6].starts_with("compared "), "{text}");
+}
+
+/// Only frame 15's answers have 18 digits. Those that end in 0 are answered one
+/// too high.
+#[test]
+fn a_wrong_room_is_shrunk_to_an_opening_and_frame_15() {
+    let one_more = r"ORACLE | sed 's/^\(00[0-9a-f]\{15\}\)0$/\11/'";
+    let program = wrong_program("room_one_more", one_more);
+    for kind in ["room", "free"] {
+        let output = compare(&program, &["--kind", kind]);
+        assert_eq!(output.status.code(), Some(1));
+        let text = text(&output);
+        let lines: Vec<&str> = text.lines().collect();
+        assert_eq!(lines.len(), 7, "{text}");
+        assert!(lines[1].starts_with("01"), "{text}");
+        assert_eq!(lines[2], "15");
+        let expected = lines[3].strip_prefix("expected ").map(room);
+        let answered = lines[4].strip_prefix("answered ").map(room);
+        assert_eq!(expected.unwrap() + 1, answered.unwrap(), "{text}");
+    }
+}
+
+fn room(answer: &str) -> i64 {
+    assert_eq!(answer.len(), 18, "{answer}");
+    i64::from_str_radix(answer, 16).unwrap()
+}
+
+#[test]
+fn frames_15_are_counted_before_the_figure() {
+    let frames = Path::new(env!("CARGO_TARGET_TMPDIR")).join("rooms");
+    let dump = ["--kind", "room", "--dump", frames.to_str().unwrap()];
+    let output = compare(Path::new(ORACLE), &dump);
+    let asked = fs::read(&frames).unwrap();
+    let lines = asked.split_inclusive(|byte| *byte == b'\n');
+    let all = lines.clone().count();
+    let rooms = lines.filter(|line| *line == b"15\n").count();
+    assert!(10 * rooms > 4 * all, "{rooms} of {all}");
+    let expected = format!("of them {rooms} frames 15\ncompared {all} frames, 0 differences\n");
+    assert_eq!(text(&output), expected);
 }
 
 #[test]

@@ -64,6 +64,30 @@ fn every_manager_gives_every_number_it_can() {
     assert_eq!(found, all);
 }
 
+/// Frame 15 is asked with nothing open and of every manager.
+#[test]
+fn every_manager_is_asked_for_its_room() {
+    let list = list::make();
+    let mut open = 0;
+    let mut found = BTreeSet::new();
+    for (line, answer) in list.lines().zip(lines(&list.answers)) {
+        match frames::decode(line).map(|frame| frame.kind()) {
+            Some(kind::ROOM) => drop(found.insert((open, answer[..2].to_vec()))),
+            Some(of) if of < kind::DRY_RUN && answer == b"00\n" => open = of,
+            _ => {}
+        }
+    }
+    let expected = [
+        (0, b"01"),
+        (kind::OPEN_FREE, b"00"),
+        (kind::OPEN_PRIORITY, b"0c"),
+        (kind::OPEN_POLY, b"0c"),
+        (kind::OPEN_QUEUE, b"0c"),
+    ];
+    let expected = expected.map(|(of, number)| (of, number.to_vec()));
+    assert_eq!(found, BTreeSet::from(expected));
+}
+
 #[test]
 fn it_is_the_same_each_time_and_of_some_thousands() {
     let (first, second) = (list::make(), list::make());

@@ -9,7 +9,8 @@ use oracle::generate::{Kind, list};
 
 const HELP: &str = "\
 compare: feeds a program and the original contact managers the same frames of
-document 01 and compares their answers line by line.
+document 01, and frame 15 of document 02's R-1, and compares their answers line
+by line.
 
   compare --program PATH [--frames N] [--seed S] [--kind KIND] [--dump FILE]
   compare --dump FILE [--frames N] [--seed S] [--kind KIND]
@@ -21,7 +22,8 @@ document 01 and compares their answers line by line.
   --frames N       compare at least so many (1,000,000); the last dialogue is
                    finished, so the figure is a little larger
   --seed S         the same seed gives the same frames (1)
-  --kind KIND      free, priority, poly, queue, malformed or all (all)
+  --kind KIND      free, priority, poly, queue, malformed, room or all (all);
+                   room is free with frame 15 after every other frame
   --dump FILE      also write the frames to FILE and the expected answers to
                    FILE.answers; all frames are then one run of the program.
                    Without --program they are only written
@@ -32,13 +34,15 @@ Frames come in dialogues that begin with an opening. Half of each manager's are
 tiny contacts, with every asked time and size, fresh and after every booking,
 until there are no more; the others are random: small contacts, long ones whose
 list grows to 64 segments and past it, contacts at the limits, wrong openings,
-stale and changed offers, malformed lines.
+stale and changed offers, malformed lines. All of them ask frame 15 now and
+then. The original has no such figure: the original's own list is added up.
 
 On a difference the frames since the last opening are run again, on the program
 started afresh and on a new oracle, with ever fewer frames; the shortest run
 that still shows a difference is printed with both answers.
 
 The last line on standard output is the figure: compared N frames, D differences.
+The line before it says how many of them were frame 15: of them N frames 15.
 A difference, or a program that does not exit with 0, makes the exit status 1.
 ";
 
@@ -146,6 +150,9 @@ fn report(outcome: &Outcome) -> ExitCode {
     }
     if let Some(end) = outcome.bad_end {
         println!("the program did not end well: {end}");
+    }
+    if outcome.rooms > 0 {
+        println!("of them {} frames 15", outcome.rooms);
     }
     println!(
         "compared {} frames, {} differences",

@@ -6,7 +6,8 @@ use oracle::{Oracle, serve};
 
 const HELP: &str = "\
 oracle: reads document 01's frames on standard input, one a line, and writes the
-original contact managers' answer to each on standard output.
+original contact managers' answer to each on standard output. Frame 15 (document
+02, R-1) is answered with the sum over the original's own list.
 
 The answer fe is none of document 01's: the original panicked, or answered what
 no answer can hold. The frame is then repeated on standard error.

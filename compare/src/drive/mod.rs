@@ -35,6 +35,9 @@ pub struct Settings {
 
 pub struct Outcome {
     pub compared: usize,
+    /// How many of them are frame 15. The original has no such figure, so these
+    /// are no part of the comparison with the original itself.
+    pub rooms: usize,
     pub differences: usize,
     pub found: Option<Found>,
     /// How the program ended where it did not end well.
@@ -53,6 +56,7 @@ pub fn compare(settings: &Settings) -> io::Result<Outcome> {
     let program = settings.program.clone().map(|path| Program { path });
     let mut outcome = Outcome {
         compared: 0,
+        rooms: 0,
         differences: 0,
         found: None,
         bad_end: None,
@@ -62,11 +66,12 @@ pub fn compare(settings: &Settings) -> io::Result<Outcome> {
         if let Some(path) = &settings.dump {
             dump(path, &run)?;
         }
-        let count = run.count;
+        let (count, rooms) = (run.count, run.rooms);
         if let Some(program) = &program {
             compare_run(program, run, &mut outcome)?;
         }
         outcome.compared += count;
+        outcome.rooms += rooms;
         if outcome.found.is_some() || outcome.bad_end.is_some() {
             break;
         }

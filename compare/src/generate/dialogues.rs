@@ -49,10 +49,11 @@ pub fn dialogue(rng: &mut Rng, manager: Manager, sink: &mut Sink) {
         talk.step(manager);
     }
     let _ = talk.sink.ask(&Frame::List);
+    let _ = talk.sink.ask(&Frame::Room);
 }
 
-/// Lines of every malformed kind and wrong openings, with lists between them
-/// that show what they changed.
+/// Lines of every malformed kind and wrong openings, with lists and frames 15
+/// between them that show what they changed.
 pub fn malformed_dialogue(rng: &mut Rng, sink: &mut Sink) {
     let managers = [
         Manager::Free,
@@ -64,9 +65,10 @@ pub fn malformed_dialogue(rng: &mut Rng, sink: &mut Sink) {
     let frame = opening(rng, manager, Scale::Small);
     let _ = sink.ask(&frame);
     for _ in 0..rng.between(10, 40) {
-        let _ = match rng.below(8) {
+        let _ = match rng.below(9) {
             0 => sink.ask(&Frame::List),
-            1..4 => sink.ask(&openings::wrong(rng)),
+            1 => sink.ask(&Frame::Room),
+            2..5 => sink.ask(&openings::wrong(rng)),
             _ => sink.line(&malformed::line(rng)),
         };
     }
@@ -162,7 +164,7 @@ impl Talk<'_> {
         if self.books_most && !self.rng.once_in(5) {
             return self.book();
         }
-        match self.rng.below(40) {
+        match self.rng.below(42) {
             0..12 => self.dry_run(),
             12..24 => self.book(),
             24..27 => self.book_late(),
@@ -172,6 +174,7 @@ impl Talk<'_> {
             35..37 => self.outside(),
             37 => self.queue_by_hand(),
             38 => drop(self.sink.ask(&openings::wrong(self.rng))),
+            39..41 => drop(self.sink.ask(&Frame::Room)),
             _ => drop(self.sink.line(&malformed::line(self.rng))),
         }
     }

@@ -60,10 +60,14 @@ impl Tiny {
         }
     }
 
+    /// Asks frame 15 after the opening and after each booking: they alone
+    /// change the figure.
     fn walk(&self, sink: &mut Sink, path: &[(Request, Dates)]) {
         let _ = sink.ask(&self.open);
+        let _ = sink.ask(&Frame::Room);
         for (request, dates) in path {
             let _ = sink.ask(&Frame::Book(*request, *dates));
+            let _ = sink.ask(&Frame::Room);
         }
         let _ = sink.ask(&Frame::List);
     }

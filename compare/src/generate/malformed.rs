@@ -38,7 +38,7 @@ fn any_frame(rng: &mut Rng) -> Frame {
         load,
     };
     let scale = openings::scale(rng);
-    match rng.below(9) {
+    match rng.below(10) {
         0 => Frame::OpenFree(openings::rated(rng, scale)),
         1 => Frame::OpenPriority(openings::rated(rng, scale)),
         2 => Frame::OpenPoly(openings::poly(rng, scale)),
@@ -47,7 +47,8 @@ fn any_frame(rng: &mut Rng) -> Frame {
         5 => Frame::Book(request, Dates([rng.between(0, 100); 4])),
         6 => Frame::List,
         7 => Frame::Enqueue(load),
-        _ => Frame::Dequeue(load),
+        8 => Frame::Dequeue(load),
+        _ => Frame::Room,
     }
 }
 

@@ -23,16 +23,20 @@ pub enum Kind {
     Poly,
     Queue,
     Malformed,
+    /// The dialogues of `Free`, with frame 15 after every other frame.
+    Room,
+    /// Everything but `Room`: the others ask frame 15 now and then.
     All,
 }
 
 impl Kind {
-    pub const NAMES: [(&str, Kind); 6] = [
+    pub const NAMES: [(&str, Kind); 7] = [
         ("free", Kind::Free),
         ("priority", Kind::Priority),
         ("poly", Kind::Poly),
         ("queue", Kind::Queue),
         ("malformed", Kind::Malformed),
+        ("room", Kind::Room),
         ("all", Kind::All),
     ];
 
@@ -85,6 +89,8 @@ pub struct Stream {
     sources: Vec<Source>,
     /// The share of malformed dialogues: all, one in a few, or none.
     malformed_every: Option<usize>,
+    /// Whether frame 15 is asked after every other frame.
+    asks_room: bool,
 }
 
 /// Among all kinds, one dialogue in so many is malformed.
@@ -93,7 +99,7 @@ const MALFORMED_SHARE: usize = 6;
 impl Stream {
     pub fn new(kind: Kind, seed: u64) -> Self {
         let managers: &[Manager] = match kind {
-            Kind::Free => &[Manager::Free],
+            Kind::Free | Kind::Room => &[Manager::Free],
             Kind::Priority => &[Manager::Priority],
             Kind::Poly => &[Manager::Poly],
             Kind::Queue => &[Manager::Queue],
@@ -116,12 +122,16 @@ impl Stream {
                 Kind::All => Some(MALFORMED_SHARE),
                 _ => None,
             },
+            asks_room: kind == Kind::Room,
         }
     }
 
     /// A run of at least so many frames: the last dialogue is finished.
     pub fn run(&mut self, frames: usize) -> Run {
-        let mut sink = Sink::new();
+        let mut sink = match self.asks_room {
+            true => Sink::asking_room(),
+            false => Sink::new(),
+        };
         self.ask_nothing_open(&mut sink);
         while sink.count() < frames {
             self.dialogue(&mut sink);

@@ -11,6 +11,9 @@ pub struct Run {
     pub frames: Vec<u8>,
     pub answers: Vec<u8>,
     pub count: usize,
+    /// How many of them are frame 15, to which the original has no answer of
+    /// its own.
+    pub rooms: usize,
 }
 
 impl Run {
@@ -26,11 +29,22 @@ impl Run {
 pub struct Sink {
     oracle: Oracle,
     run: Run,
+    /// Whether frame 15 is asked after every other line.
+    asks_room: bool,
 }
 
 impl Sink {
     pub fn new() -> Self {
         Self::default()
+    }
+
+    /// A run that asks frame 15 after every other line, so that each change of
+    /// the figure is seen at once, also one that should not be.
+    pub fn asking_room() -> Self {
+        Sink {
+            asks_room: true,
+            ..Self::default()
+        }
     }
 
     pub fn count(&self) -> usize {
@@ -47,6 +61,14 @@ impl Sink {
 
     /// A line as it stands, right or malformed.
     pub fn line(&mut self, line: &[u8]) -> Answer {
+        let answer = self.add(line);
+        if self.asks_room && !is_room(line) {
+            let _ = self.add(&Frame::Room.encode());
+        }
+        answer
+    }
+
+    fn add(&mut self, line: &[u8]) -> Answer {
         assert!(!line.contains(&b'\n'), "a line end inside a line");
         let answer = self.oracle.answer_line(line);
         self.run.frames.extend_from_slice(line);
@@ -54,6 +76,7 @@ impl Sink {
         frames::encode_answer(&answer, &mut self.run.answers);
         self.run.answers.push(b'\n');
         self.run.count += 1;
+        self.run.rooms += usize::from(is_room(line));
         answer
     }
 
@@ -69,4 +92,8 @@ impl Sink {
             _ => Vec::new(),
         }
     }
+}
+
+fn is_room(line: &[u8]) -> bool {
+    line == Frame::Room.encode()
 }

@@ -34,6 +34,7 @@ fn samples() -> Vec<Frame> {
         Frame::List,
         Frame::Enqueue(request(0, 15, 1).load),
         Frame::Dequeue(request(0, 15, 1).load),
+        Frame::Room,
     ]);
     samples
 }
@@ -70,7 +71,7 @@ fn kinds() -> Talk {
     let fields = &Frame::DryRun(request(3, 15, 1)).encode()[2..];
     let fields = std::str::from_utf8(fields).expect("digits");
     for kind in 0..=u8::MAX {
-        if kind != 0x12 {
+        if kind != 0x12 && kind != 0x15 {
             talk = malformed(talk, format!("{kind:02x}"));
         }
         if kind != 0x10 {

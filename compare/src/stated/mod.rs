@@ -1,5 +1,5 @@
-//! What document 01 states, as frames with the answers it gives. The tests hold
-//! the oracle to these, and the stored list contains them.
+//! What document 01 and document 02's R-1 state, as frames with the answers they
+//! give. The tests hold the oracle to these, and the stored list contains them.
 
 pub mod cases;
 pub mod limits;
@@ -7,6 +7,7 @@ pub mod lines;
 pub mod openings;
 pub mod orders;
 pub mod refusals;
+pub mod room;
 
 use crate::frames::{
     self, Answer, BUDGETS, Content, Dates, Frame, Load, PolyOpening, QueueOpening, RatedOpening,
@@ -29,11 +30,13 @@ pub struct Step {
 /// open stand first, as the list is one run.
 pub fn talks() -> Vec<Talk> {
     let mut talks = refusals::nothing_open();
+    talks.extend(room::nothing_open());
     talks.extend(cases::talks());
     talks.extend(limits::talks());
     talks.extend(openings::talks());
     talks.extend(orders::talks());
     talks.extend(refusals::talks());
+    talks.extend(room::talks());
     talks.extend(lines::talks());
     talks
 }
@@ -93,6 +96,10 @@ impl Talk {
 
     pub fn queues(self, queues: &[i64]) -> Self {
         self.frame(&Frame::List, Ok(Content::Queues(queues.to_vec())))
+    }
+
+    pub fn room(self, sum: i64) -> Self {
+        self.frame(&Frame::Room, Ok(Content::Room(sum)))
     }
 }
 

@@ -19,7 +19,9 @@ pub fn talks() -> Vec<Talk> {
 /// 1, for every frame but openings, whatever it holds.
 pub fn nothing_open() -> Vec<Talk> {
     let asked = [request(0, 1, 0), request(-1, 0, 255)];
-    let mut talk = Talk::about("nothing open").refused(Frame::List, Refusal::NothingOpen);
+    let mut talk = Talk::about("nothing open")
+        .refused(Frame::List, Refusal::NothingOpen)
+        .refused(Frame::Room, Refusal::NothingOpen);
     for request in asked {
         for frame in [
             Frame::DryRun(request),
@@ -37,6 +39,7 @@ pub fn nothing_open() -> Vec<Talk> {
     vec![
         talk.refused(refused, Refusal::Window)
             .refused(Frame::List, Refusal::NothingOpen)
+            .refused(Frame::Room, Refusal::NothingOpen)
             .line(b"13", b"ff"),
     ]
 }

@@ -1,6 +1,7 @@
 //! Document 01 read a second time, without the original, gives the original's
 //! answers over generated runs. What differs here would be a difference between
-//! document 01 and the original.
+//! document 01 and the original. Frame 15 is read from document 02's R-1: the
+//! reading keeps the sum, and the oracle adds the original's list up.
 
 mod queues;
 mod ticks;
@@ -88,6 +89,11 @@ fn polynomial() {
 #[test]
 fn queue() {
     assert!(read_along(Kind::Queue) > FRAMES / 2);
+}
+
+#[test]
+fn room() {
+    assert!(read_along(Kind::Room) > FRAMES / 2);
 }
 
 pub fn refuse_unless(holds: bool, refusal: Refusal) -> Result<(), Refusal> {

@@ -98,6 +98,7 @@ impl Reading for Queue {
             Frame::Book(request, stated) => self.book(*request, *stated),
             Frame::Enqueue(load) => self.by_hand(*load, 1),
             Frame::Dequeue(load) => self.by_hand(*load, -1),
+            Frame::Room => Err(Refusal::NotManual),
             _ => unreachable!("openings are not asked here"),
         };
         done.map(|()| Content::Nothing)

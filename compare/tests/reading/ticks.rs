@@ -1,4 +1,5 @@
-//! The three segmentation managers, from "Rounding and lookup" and "Managers".
+//! The three segmentation managers, from "Rounding and lookup" and "Managers",
+//! and the sum that document 02's R-1 keeps in the free-volume record.
 
 use oracle::frames::{
     Answer, Content, Dates, Frame, Load, PolyOpening, RatedOpening, Request, Span, Window,
@@ -23,12 +24,16 @@ pub struct Found {
 }
 
 /// What a manager adds to the calls they share.
-pub trait Rules {
+pub trait Rules: Clone {
     fn list(&self) -> &Vec<Span>;
-    fn list_mut(&mut self) -> &mut Vec<Span>;
     fn delays(&self) -> &[Span];
     fn find(&self, request: Request) -> Option<Found>;
     fn cut(&mut self, found: &Found, load: Load);
+
+    /// The sum that the record keeps; only the free-volume record has one.
+    fn room(&self) -> Option<i64> {
+        None
+    }
 }
 
 /// The first segment whose end is not before the date, from a place on.
@@ -56,12 +61,10 @@ fn book(rules: &mut impl Rules, request: Request, stated: Dates) -> Result<(), R
     refuse_unless(in_limits(request), Refusal::Bundle)?;
     let (found, dates) = dry_run(rules, request).map_err(|_| Refusal::NotOffered)?;
     refuse_unless(dates == stated, Refusal::NotOffered)?;
-    let before = rules.list().clone();
-    rules.cut(&found, request.load);
-    if rules.list().len() > 64 {
-        *rules.list_mut() = before;
-        return Err(Refusal::ListFull);
-    }
+    let mut booked = rules.clone();
+    booked.cut(&found, request.load);
+    refuse_unless(booked.list().len() <= 64, Refusal::ListFull)?;
+    *rules = booked;
     Ok(())
 }
 
@@ -75,6 +78,7 @@ impl<R: Rules> Reading for R {
                 book(self, *request, *stated).map(|()| Content::Nothing)
             }
             Frame::List => Ok(Content::Segments(self.list().clone())),
+            Frame::Room => self.room().map(Content::Room).ok_or(Refusal::NotManual),
             _ => Err(Refusal::NotManual),
         }
     }
@@ -86,6 +90,7 @@ impl<R: Rules> Reading for R {
 /// Up to this length a window is also gone through tick by tick.
 const SHORT: i64 = 1_000;
 
+#[derive(Clone)]
 struct Rates {
     window: Window,
     rates: Vec<Span>,
@@ -178,9 +183,13 @@ impl Rates {
 // ---------------------------------------------------------------------------
 // Free volume
 
+#[derive(Clone)]
 pub struct Free {
     rates: Rates,
     list: Vec<Span>,
+    /// "Opening sets it, every booking keeps it true". It is changed by
+    /// what each booking changes, and not added up.
+    sum: i64,
 }
 
 impl Free {
@@ -191,17 +200,26 @@ impl Free {
         Free {
             rates,
             list: vec![Span { start, end, value }],
+            sum: value,
         }
+    }
+
+    /// The kept sum is the list's. It is at most what the listed time carries,
+    /// and that at most what the window does.
+    fn test_sum(&self) {
+        let listed: i64 = self.list.iter().map(|span| span.value).sum();
+        assert_eq!(self.sum, listed);
+        let capacity = |span: &Span| self.rates.capacity(span.start, span.end);
+        let in_listed_time: i64 = self.list.iter().map(capacity).sum();
+        let Window { start, end } = self.rates.window;
+        assert!(0 <= self.sum && self.sum <= in_listed_time);
+        assert!(in_listed_time <= self.rates.capacity(start, end));
     }
 }
 
 impl Rules for Free {
     fn list(&self) -> &Vec<Span> {
         &self.list
-    }
-
-    fn list_mut(&mut self) -> &mut Vec<Span> {
-        &mut self.list
     }
 
     fn delays(&self) -> &[Span] {
@@ -234,6 +252,7 @@ impl Rules for Free {
                 end: old.end,
                 value: old.value - load.size,
             };
+            self.sum -= load.size;
             return;
         }
         let part = |start, end| Span {
@@ -244,15 +263,23 @@ impl Rules for Free {
         let left = part(old.start, found.start);
         let right = part(found.end, old.end);
         self.list[found.place] = left;
+        self.sum += left.value - old.value;
         if found.start != found.end {
             self.list.insert(found.place + 1, right);
+            self.sum += right.value;
         }
+    }
+
+    fn room(&self) -> Option<i64> {
+        self.test_sum();
+        Some(self.sum)
     }
 }
 
 // ---------------------------------------------------------------------------
 // Priority
 
+#[derive(Clone)]
 pub struct Priority {
     rates: Rates,
     list: Vec<Span>,
@@ -275,10 +302,6 @@ impl Priority {
 impl Rules for Priority {
     fn list(&self) -> &Vec<Span> {
         &self.list
-    }
-
-    fn list_mut(&mut self) -> &mut Vec<Span> {
-        &mut self.list
     }
 
     fn delays(&self) -> &[Span] {
@@ -344,6 +367,7 @@ impl Rules for Priority {
 // ---------------------------------------------------------------------------
 // Polynomial
 
+#[derive(Clone)]
 pub struct Poly {
     opening: PolyOpening,
     list: Vec<Span>,
@@ -392,10 +416,6 @@ impl Poly {
 impl Rules for Poly {
     fn list(&self) -> &Vec<Span> {
         &self.list
-    }
-
-    fn list_mut(&mut self) -> &mut Vec<Span> {
-        &mut self.list
     }
 
     fn delays(&self) -> &[Span] {
