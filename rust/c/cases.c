@@ -1,4 +1,4 @@
-/* Cases 1, 8, 10 and 11 of document 01 from C, by both doors, on the library as the kit compiles it for x86-64. */
+/* Cases 1, 8, 10 and 11 of document 01, and 02's room, from C, by both doors, on the library as the kit compiles it for x86-64. */
 #include "howrekano.h"
 
 int printf(const char *, ...);
@@ -18,42 +18,73 @@ static void list(const char *what, int number, const hk_list *l)
 
 static const uint64_t *words(const hk_segment *s) { return (const uint64_t *)s; }
 
-typedef hk_offer (*dry_run)(hk_interval, const uint64_t *, size_t, const uint64_t *, size_t, const uint64_t *, size_t, uint64_t, hk_bundle);
-typedef uint8_t (*book)(hk_interval, const uint64_t *, size_t, const uint64_t *, size_t, uint64_t *, size_t *, uint64_t, hk_bundle, const uint64_t *);
+/* what a kept call takes of a contact, and of a list */
+#define CONTACT(m) (m)->contact.window, words((m)->contact.rates), (m)->contact.rate_count, words((m)->contact.delays), (m)->contact.delay_count
+#define LIST(m) (uint64_t *)(m)->list.segments, &(m)->list.count
 
-/* a dry run and the booking of what it offers, by the kept door */
-static void booked(dry_run ask, book take, hk_listed *m, uint64_t at, hk_bundle b)
+/* a dry run and the booking of what it offers, by the kept door, and the room that is left */
+static void free_booked(hk_free *m, uint64_t at, hk_bundle b)
 {
-    hk_contact *c = &m->contact;
-    hk_offer o = ask(c->window, words(c->rates), c->rate_count, words(c->delays), c->delay_count, words(m->list.segments), m->list.count, at, b);
+    hk_offer o = hk_free_dry_run_kept(CONTACT(m), words(m->list.segments), m->list.count, at, b);
     show("kept offer", o);
-    int n = take(c->window, words(c->rates), c->rate_count, words(c->delays), c->delay_count, (uint64_t *)m->list.segments, &m->list.count, at, b, (const uint64_t *)&o.dates);
+    int n = hk_free_book_kept(CONTACT(m), LIST(m), &m->room, at, b, (const uint64_t *)&o.dates);
     list("kept booking", n, &m->list);
+    printf("kept room: %lu\n", hk_free_room_kept(m));
+}
+
+static void priority_booked(hk_priority *m, uint64_t at, hk_bundle b)
+{
+    hk_offer o = hk_priority_dry_run_kept(CONTACT(m), words(m->list.segments), m->list.count, at, b);
+    show("kept offer", o);
+    int n = hk_priority_book_kept(CONTACT(m), LIST(m), at, b, (const uint64_t *)&o.dates);
+    list("kept booking", n, &m->list);
+}
+
+static void room(const char *what, const hk_free *m)
+{
+    hk_room r = hk_free_room(m);
+    printf("%s: %d, %lu\n", what, r.number, r.room);
 }
 
 static void free_volume(const hk_contact *opening)
 {
-    hk_listed_opened opened = hk_free_open(opening);
+    hk_free_opened opened = hk_free_open(opening);
     printf("free: %d, ok %d\n", opened.number, hk_free_ok(&opened.manager));
     hk_bundle b = {15, 0};
-    hk_listed kept = opened.manager, total = opened.manager;
-    booked(hk_free_dry_run_kept, hk_free_book_kept, &kept, 3, b);
+    hk_free kept = opened.manager, total = opened.manager;
+    room("room", &total);
+    free_booked(&kept, 3, b);
     hk_offer o = hk_free_dry_run(&total, 3, b);
     show("total offer", o);
     int n = hk_free_book(&total, 3, b, &o.dates);
     hk_listing l = hk_free_list(&total);
     list("total booking", n + l.number, &l.list);
+    room("room", &total);
     printf("again: %d\n", hk_free_book(&total, 3, b, &o.dates));
+    total.room++;
+    room("a room that is not the list's", &total);
+    printf("damaged: %d %d %d\n", hk_free_ok(&total), hk_free_dry_run(&total, 3, b).number, hk_free_book(&total, 3, b, &o.dates));
+    total.room--;
     total.list.count = 65;
     printf("damaged: %d %d %d\n", hk_free_ok(&total), hk_free_dry_run(&total, 3, b).number, hk_free_book(&total, 3, b, &o.dates));
 }
 
+/* the room rises by a booking inside a stretch, whose parts are worked out anew */
+static void rises(const hk_contact *opening)
+{
+    hk_free m = hk_free_open(opening).manager;
+    free_booked(&m, 0, (hk_bundle){19, 0});
+    free_booked(&m, 1, (hk_bundle){19, 0});
+    free_booked(&m, 5, (hk_bundle){10, 0});
+    room("room", &m);
+}
+
 static void priority(const hk_contact *opening)
 {
-    hk_listed_opened opened = hk_priority_open(opening);
+    hk_priority_opened opened = hk_priority_open(opening);
     printf("priority: %d\n", opened.number);
-    booked(hk_priority_dry_run_kept, hk_priority_book_kept, &opened.manager, 2, (hk_bundle){30, 1});
-    booked(hk_priority_dry_run_kept, hk_priority_book_kept, &opened.manager, 0, (hk_bundle){30, 2});
+    priority_booked(&opened.manager, 2, (hk_bundle){30, 1});
+    priority_booked(&opened.manager, 0, (hk_bundle){30, 2});
 }
 
 static void polynomial(const hk_contact *c)
@@ -87,6 +118,7 @@ int main(void)
 {
     hk_contact opening = {{0, 10}, {{0, 10, 10}}, 1, {{0, 10, 3}}, 1};
     free_volume(&opening);
+    rises(&opening);
     priority(&opening);
     polynomial(&opening);
     queue(&opening);

@@ -18,21 +18,30 @@ typedef struct { uint8_t number; hk_list list; } hk_listing;
 
 /* the free-volume and the priority manager; in a record a rate stands as a volume, its rate times its length */
 typedef struct { hk_interval window; hk_segment rates[16]; size_t rate_count; hk_segment delays[16]; size_t delay_count; } hk_contact;
-typedef struct { hk_contact contact; hk_list list; } hk_listed;
-typedef struct { uint8_t number; hk_listed manager; } hk_listed_opened;
+typedef struct { hk_contact contact; hk_list list; uint64_t room; } hk_free; /* room: the sum of the listed volumes */
+typedef struct { hk_contact contact; hk_list list; } hk_priority;
+typedef struct { uint8_t number; hk_free manager; } hk_free_opened;
+typedef struct { uint8_t number; hk_priority manager; } hk_priority_opened;
+typedef struct { uint8_t number; uint64_t room; } hk_room;
 
 #define HK_LISTED(M) \
-    hk_listed_opened hk_##M##_open(const hk_contact *opening); \
-    bool hk_##M##_ok(const hk_listed *m); \
-    hk_listing hk_##M##_list(const hk_listed *m); \
-    hk_offer hk_##M##_dry_run(const hk_listed *m, uint64_t at, hk_bundle bundle); \
-    uint8_t hk_##M##_book(hk_listed *m, uint64_t at, hk_bundle bundle, const hk_dates *dates); \
+    hk_##M##_opened hk_##M##_open(const hk_contact *opening); \
+    bool hk_##M##_ok(const hk_##M *m); \
+    hk_listing hk_##M##_list(const hk_##M *m); \
+    hk_offer hk_##M##_dry_run(const hk_##M *m, uint64_t at, hk_bundle bundle); \
+    uint8_t hk_##M##_book(hk_##M *m, uint64_t at, hk_bundle bundle, const hk_dates *dates); \
     hk_offer hk_##M##_dry_run_kept(hk_interval window, const uint64_t *rates, size_t rate_count, const uint64_t *delays, \
-        size_t delay_count, const uint64_t *list, size_t count, uint64_t at, hk_bundle bundle); \
-    uint8_t hk_##M##_book_kept(hk_interval window, const uint64_t *rates, size_t rate_count, const uint64_t *delays, \
-        size_t delay_count, uint64_t *list, size_t *count, uint64_t at, hk_bundle bundle, const uint64_t dates[4]);
+        size_t delay_count, const uint64_t *list, size_t count, uint64_t at, hk_bundle bundle);
 HK_LISTED(free)
 HK_LISTED(priority)
+uint8_t hk_free_book_kept(hk_interval window, const uint64_t *rates, size_t rate_count, const uint64_t *delays,
+    size_t delay_count, uint64_t *list, size_t *count, uint64_t *room, uint64_t at, hk_bundle bundle, const uint64_t dates[4]);
+uint8_t hk_priority_book_kept(hk_interval window, const uint64_t *rates, size_t rate_count, const uint64_t *delays,
+    size_t delay_count, uint64_t *list, size_t *count, uint64_t at, hk_bundle bundle, const uint64_t dates[4]);
+
+/* the room left in a pass: what its free list adds up to. A bundle of that size need not fit, since the room may lie in several stretches */
+hk_room hk_free_room(const hk_free *m);
+uint64_t hk_free_room_kept(const hk_free *m);
 
 /* the polynomial manager */
 typedef struct { int64_t coefficients[4]; uint64_t offset; } hk_polynome;

@@ -1,4 +1,5 @@
-//! Opens a contact, asks for an offer, books it, and tries to book it again.
+//! Opens a contact, asks for an offer, books it, looks at the room left, and
+//! tries to book it again.
 
 use howrekano::{Bundle, DelaySegment, FreeVolume, Interval, RateSegment, Refusal};
 
@@ -26,6 +27,7 @@ fn main() -> Result<(), Refusal> {
     for free in contact.list() {
         println!("free: {free:?}");
     }
+    println!("room left: {}", contact.room());
     match contact.book(3, bundle, offer) {
         Ok(()) => println!("booked twice"),
         Err(refusal) => println!("again: {refusal}"),

@@ -1,5 +1,9 @@
-//! Records as bytes: the fields in order, numbers of 8 bytes, big-endian,
-//! counts before their lists, and of each list the used places only.
+//! Records as bytes: the kind and form, then the fields in order, numbers of 8
+//! bytes, big-endian, counts before their lists, and of each list the used
+//! places only.
+//!
+//! A form that was written once is read for good: what it lacks is worked out,
+//! and the record then passes the same test as any other.
 
 use crate::manager::{Manager, Record};
 use crate::record::{
@@ -8,11 +12,15 @@ use crate::record::{
 use crate::refusal::Refusal;
 use crate::segments::{BookingSegment, DelaySegment, Flags, Interval, Polynome, VolumeSegment};
 
-/// Which record follows: the kinds of document 01's openings.
-const FREE: u8 = 1;
+/// Which record follows: the kinds of document 01's openings, and above them
+/// the record's form.
+const FREE: u8 = 0x11;
 const PRIORITY: u8 = 2;
 const POLYNOMIAL: u8 = 3;
 const QUEUE: u8 = 4;
+
+/// The form that free-volume records had before they held their room.
+const FREE_WITHOUT_ROOM: u8 = 1;
 
 /// What can be written and read back.
 pub trait Bytes: Sized {
@@ -186,6 +194,15 @@ impl Bytes for Bookings {
     }
 }
 
+impl FreeList {
+    /// The room of a list that was stored without it. Nothing rests on this
+    /// sum: the record's test adds the list up itself.
+    fn room(&self) -> Option<u64> {
+        let mut volumes = self.segments.iter().map(|segment| segment.volume);
+        volumes.try_fold(0, u64::checked_add)
+    }
+}
+
 /// The kind that a record's bytes begin with.
 fn kind(expected: u8, from: &mut &[u8]) -> Option<()> {
     (u8::read(from)? == expected).then_some(())
@@ -196,13 +213,22 @@ impl Bytes for FreeVolume {
         FREE.write(out);
         self.contact.write(out);
         self.free.write(out);
+        self.room.write(out);
     }
 
     fn read(from: &mut &[u8]) -> Option<Self> {
-        kind(FREE, from)?;
+        let form = u8::read(from)?;
+        let contact = Bytes::read(from)?;
+        let free = FreeList::read(from)?;
+        let room = match form {
+            FREE => u64::read(from)?,
+            FREE_WITHOUT_ROOM => free.room()?,
+            _ => return None,
+        };
         Some(FreeVolume {
-            contact: Bytes::read(from)?,
-            free: Bytes::read(from)?,
+            contact,
+            free,
+            room,
         })
     }
 }

@@ -24,6 +24,7 @@ use crate::segments::{DelaySegment, Interval, RateSegment, VolumeSegment};
 /// contact.book(3, bundle, offer)?;
 /// let free: Vec<_> = contact.list().iter().map(|s| (s.start, s.end, s.volume)).collect();
 /// assert_eq!(free, [(0, 3, 30), (4, 10, 60)]);
+/// assert_eq!(contact.room(), 90);
 /// # Ok::<(), howrekano::Refusal>(())
 /// ```
 pub type FreeVolume = Manager<record::FreeVolume>;

@@ -11,10 +11,11 @@
 //! - [`Queue`] keeps the volume that waits in each class.
 //!
 //! All have the same calls: `open`, [`dry_run`](Manager::dry_run),
-//! [`book`](Manager::book) and `list`; the queue manager also
-//! [`enqueue`](Manager::enqueue) and [`dequeue`](Manager::dequeue). A call that
-//! cannot be met answers with a [`Refusal`] and changes nothing. No call
-//! panics.
+//! [`book`](Manager::book) and `list`; the free-volume manager also
+//! [`room`](Manager::room), what its free stretches add up to, and the queue
+//! manager [`enqueue`](Manager::enqueue) and [`dequeue`](Manager::dequeue). A
+//! call that cannot be met answers with a [`Refusal`] and changes nothing. No
+//! call panics.
 //!
 //! A record can be taken out and put back, as bytes or as plain data:
 //!

@@ -160,9 +160,10 @@ fn words_mut<T, const PLACES: usize>(places: &mut [T; PLACES]) -> *mut u64 {
     places.as_mut_ptr().cast()
 }
 
-// A manager over rates, delays and one list.
+// A manager over rates, delays and one list, and the figures that a booking
+// keeps up beside the list.
 macro_rules! kept {
-    ($record:ident, $list:ident: $dry_run:ident, $book:ident) => {
+    ($record:ident, $list:ident $(, $figure:ident)*: $dry_run:ident, $book:ident) => {
         unsafe extern "C" {
             fn $dry_run(
                 out: *mut Answer<Offer>,
@@ -184,6 +185,7 @@ macro_rules! kept {
                 delay_count: usize,
                 list: *mut u64,
                 count: *mut usize,
+                $($figure: *mut u64,)*
                 at: u64,
                 bundle: Bundle,
                 offer: *const Offer,
@@ -192,7 +194,7 @@ macro_rules! kept {
 
         impl Kept for $record {
             unsafe fn dry_run_kept(&self, at: u64, bundle: Bundle) -> Result<Offer, Refusal> {
-                let $record { contact, $list } = self;
+                let $record { contact, $list, .. } = self;
                 // SAFETY: the pointers are of this record's lists, with all
                 // their places; that it keeps its rules is asked of the caller.
                 answered(|out| unsafe {
@@ -217,9 +219,13 @@ macro_rules! kept {
                 bundle: Bundle,
                 offer: Offer,
             ) -> Result<(), Refusal> {
-                let $record { contact, $list } = self;
-                // SAFETY: as for the dry run; the list and its count, which
-                // are changed, are borrowed for this call alone.
+                let $record {
+                    contact,
+                    $list,
+                    $($figure,)*
+                } = self;
+                // SAFETY: as for the dry run; the list, its count and the
+                // figures, which are changed, are borrowed for this call alone.
                 Refusal::unless_done(unsafe {
                     $book(
                         contact.window,
@@ -229,6 +235,7 @@ macro_rules! kept {
                         contact.delay_count,
                         words_mut(&mut $list.segments),
                         &mut $list.count,
+                        $($figure,)*
                         at,
                         bundle,
                         &offer,
@@ -239,7 +246,7 @@ macro_rules! kept {
     };
 }
 
-kept!(FreeVolume, free: hk_free_dry_run_kept, hk_free_book_kept);
+kept!(FreeVolume, free, room: hk_free_dry_run_kept, hk_free_book_kept);
 kept!(PrioritySeg, bookings: hk_priority_dry_run_kept, hk_priority_book_kept);
 
 unsafe extern "C" {
@@ -330,6 +337,21 @@ impl Kept for Queue {
 }
 
 unsafe extern "C" {
+    // An answer of at most 16 bytes is returned as it is.
+    fn hk_free_room(m: *const FreeVolume) -> Answer<u64>;
+    fn hk_free_room_kept(m: *const FreeVolume) -> u64;
+}
+
+impl FreeVolume {
+    /// [`Manager::room`] of any record: a damaged one is refused, one whose
+    /// stored room is not its list's too.
+    pub fn room_left(&self) -> Result<u64, Refusal> {
+        // SAFETY: the pointer is of a reference; the total call asks nothing else.
+        unsafe { hk_free_room(self) }.result()
+    }
+}
+
+unsafe extern "C" {
     fn hk_queue_enqueue(m: *mut Queue, bundle: Bundle) -> u8;
     fn hk_queue_enqueue_kept(m: *mut Queue, bundle: Bundle) -> u8;
     fn hk_queue_dequeue(m: *mut Queue, bundle: Bundle) -> u8;
@@ -388,6 +410,22 @@ impl<R: Record> Manager<R> {
         // SAFETY: the record of a manager keeps its rules, and a booking
         // leaves one that does.
         unsafe { self.0.book_kept(at, bundle, offer) }
+    }
+}
+
+impl Manager<FreeVolume> {
+    /// The room left in the pass: the sum of the listed volumes, which every
+    /// booking keeps up. One read, whatever is listed.
+    ///
+    /// A bundle of this size need not fit, since the room may lie in several
+    /// stretches; and a booking inside a stretch works its volumes out anew, so
+    /// that the room can rise by it. It never exceeds what the listed time
+    /// carries at the contact's rates.
+    #[inline]
+    pub fn room(&self) -> u64 {
+        // SAFETY: the pointer is of a reference; the record of a manager keeps
+        // its rules.
+        unsafe { hk_free_room_kept(&self.0) }
     }
 }
 

@@ -35,11 +35,14 @@ pub struct Bookings {
     pub count: usize,
 }
 
+/// The room is the sum of the listed volumes: a record that says otherwise is
+/// damaged.
 #[repr(C)]
 #[derive(Clone, Copy, Debug, PartialEq, Eq)]
 pub struct FreeVolume {
     pub contact: Contact,
     pub free: FreeList,
+    pub room: u64,
 }
 
 #[repr(C)]

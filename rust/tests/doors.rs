@@ -126,18 +126,25 @@ fn free_volume() {
     let mut rng = Rng(11);
     for _ in 0..300 {
         let mut manager = FreeVolume::open(WINDOW, &rates(&mut rng), &delays(&mut rng)).unwrap();
-        talk(&mut rng, &mut manager, |m| m.record().free);
+        talk(&mut rng, &mut manager, |m| {
+            let sum: u64 = m.list().iter().map(|segment| segment.volume).sum();
+            assert_eq!(m.room(), sum);
+            assert_eq!(m.record().room_left(), Ok(sum));
+            m.record().free
+        });
         assert_eq!(FreeVolume::from_bytes(&manager.to_bytes()), Ok(manager));
         tampers(&mut rng, &manager.to_bytes(), FreeVolume::from_bytes);
         let mut damaged = *manager.record();
-        match rng.below(5) {
+        match rng.below(6) {
             0 => damaged.free.count = rng.word() as usize | 65,
             1 => damaged.free.segments[0].volume = u64::MAX - rng.below(9),
             2 => damaged.contact.rates[rng.below(2) as usize].volume ^= 1 << 50,
             3 => damaged.contact.delays[15].delay = 1 + rng.word() % 9,
+            4 => damaged.room = damaged.room.wrapping_sub(9).wrapping_add(rng.below(9)),
             _ => damaged.free.segments[63].end = u64::MAX,
         }
         refuses(damaged);
+        assert_eq!(damaged.room_left(), Err(Refusal::RECORD));
     }
 }
 

@@ -73,6 +73,7 @@ fn free(listed: u64, count: u64) -> Result<(), Refusal> {
     if listed < 64 {
         pair.booking(&name, "inside", last + 50, TEN_TICKS);
     }
+    pair.room(&name);
     Ok(())
 }
 
@@ -212,6 +213,26 @@ struct Pair<M: ContactManager, R: Adapts> {
     ours: Manager<R>,
     /// A copy of the original: its queue manager cannot be cloned.
     copy: fn(&M) -> M,
+}
+
+impl<M: ContactManager> Pair<M, record::FreeVolume> {
+    /// The room left. The original has no such figure: beside it stands what its
+    /// user does, the list added up.
+    fn room(&self, name: &str) {
+        let record = *self.ours.record();
+        let list = self.ours.list();
+        row(
+            &format!("{name}: room"),
+            &mut || {
+                each(|| {
+                    let list = black_box(list).iter();
+                    list.map(|segment| i128::from(segment.volume)).sum::<i128>()
+                })
+            },
+            &mut || each(|| black_box(&self.ours).room()),
+            &mut || each(|| black_box(&record).room_left()),
+        );
+    }
 }
 
 impl<M: ContactManager, R: Adapts> Pair<M, R> {

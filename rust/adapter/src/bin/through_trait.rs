@@ -104,6 +104,11 @@ impl<R: Listed> Record for Held<R> {
         Ok(R::content(self.manager()?))
     }
 
+    /// The trait has no such call: it is asked of the manager.
+    fn room(&self) -> Result<i64, Number> {
+        R::room(self.manager()?)
+    }
+
     fn enqueue(&mut self, asked: Load) -> Result<(), Number> {
         let mut copy = *self.manager()?;
         match self.0.manual_enqueue(&bundle(asked)) {
@@ -121,9 +126,14 @@ impl<R: Listed> Record for Held<R> {
     }
 }
 
-/// What frame 12 shows of each manager.
+/// What frames 12 and 15 show of each manager.
 trait Listed: Adapts {
     fn content(manager: &Manager<Self>) -> Content;
+
+    /// Only the free-volume manager has one.
+    fn room(_manager: &Manager<Self>) -> Result<i64, Number> {
+        Err(Number::NotManual)
+    }
 }
 
 impl Listed for record::FreeVolume {
@@ -134,6 +144,10 @@ impl Listed for record::FreeVolume {
                 .iter()
                 .map(|s| (s.start, s.end, s.volume as i64)),
         )
+    }
+
+    fn room(manager: &Manager<Self>) -> Result<i64, Number> {
+        Ok(manager.room() as i64)
     }
 }
 
