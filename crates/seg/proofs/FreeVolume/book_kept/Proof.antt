@@ -4,7 +4,6 @@ use Prim.Native.Nat.{ℕ}
 use mathlib.Core.Path.{_≡_, sym, ap, _∙_}
 use Rattle.units.specs.Granted.{refusalOf}
 use Rattle.free_list.specs.declared.Chosen.{Chosen}
-use Rattle.free_list.specs.declared.Cut.{Cut}
 use Rattle.free_list.proofs.CutRoom.{changed-asks}
 use Rattle.seg.specs.declared.FreeVolume.{FreeVolume}
 use Rattle.seg.specs.declared.Booked.{Booked}
