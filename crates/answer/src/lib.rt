@@ -10,8 +10,10 @@ use units::Volume;
 ghost use mathlib.Core.Path.{_≡_};
 ghost use Prim.Native.Nat.{_≤_};
 ghost use lib.ListN.{length};
+ghost use Rattle.units.specs.Limits.{listedMax};
 ghost use Rattle.text.specs.Line.{written};
 ghost use Rattle.answer.specs.Lines.{numberLine, offerLine, volumesLine, bookingsLine, queuesLine, roomLine};
+ghost use Rattle.legacy.specs.Open.{classesMax};
 
 // The number alone.
 pub fn put_number(out: &mut [u8; LINE], number: u8) -> usize
@@ -41,7 +43,7 @@ pub fn put_offer(out: &mut [u8; LINE], offer: Offer) -> usize
 
 // A list of free time: after 0, a count and (start, end, volume)s.
 pub fn put_volumes(out: &mut [u8; LINE], number: u8, list: FreeList) -> usize
-    requires { ⌜ list .count ≤ 64 ⌝ }
+    requires { ⌜ list .count ≤ listedMax ⌝ }
     ensures { λ r. ⌜ r ≡ length (volumesLine number list) ⌝ }
     ensures { λ _. ⌜ now (out .exit) ≡ written (now (out .entry)) 0 (volumesLine number list) ⌝ }
 {
@@ -58,7 +60,7 @@ pub fn put_volumes(out: &mut [u8; LINE], number: u8, list: FreeList) -> usize
 
 // A list of booked time: after 0, a count and (start, end, priority)s.
 pub fn put_bookings(out: &mut [u8; LINE], number: u8, list: Bookings) -> usize
-    requires { ⌜ list .count ≤ 64 ⌝ }
+    requires { ⌜ list .count ≤ listedMax ⌝ }
     ensures { λ r. ⌜ r ≡ length (bookingsLine number list) ⌝ }
     ensures { λ _. ⌜ now (out .exit) ≡ written (now (out .entry)) 0 (bookingsLine number list) ⌝ }
 {
@@ -80,7 +82,7 @@ pub fn put_queues(
     classes: usize,
     queues: [Volume; Queue::CLASSES_MAX],
 ) -> usize
-    requires { ⌜ classes ≤ 8 ⌝ }
+    requires { ⌜ classes ≤ classesMax ⌝ }
     ensures { λ r. ⌜ r ≡ length (queuesLine number classes queues) ⌝ }
     ensures { λ _. ⌜ now (out .exit) ≡ written (now (out .entry)) 0 (queuesLine number classes queues) ⌝ }
 {

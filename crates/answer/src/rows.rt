@@ -10,11 +10,13 @@ use units::Volume;
 ghost use mathlib.Core.Path.{_≡_};
 ghost use Prim.Native.Nat.{_+_, _≤_};
 ghost use lib.ListN.{length, take};
+ghost use Rattle.units.specs.Limits.{listedMax};
 ghost use Rattle.text.specs.Line.{room, written};
 ghost use Rattle.text.specs.Text.{listText, bitsOf};
 ghost use Rattle.free_list.specs.Cut.{listed};
 ghost use Rattle.bookings.specs.Listed.{valueOf};
 ghost use Rattle.answer.specs.Rows.{rowText, volumeText, bookingText, queueText, bookedRows};
+ghost use Rattle.legacy.specs.Open.{classesMax};
 
 // Start, end and a value.
 fn put_row(out: &mut [u8; LINE], at: usize, start: Date, end: Date, value: u64)
@@ -58,7 +60,7 @@ fn put_booking(out: &mut [u8; LINE], at: usize, s: BookingSegment)
 }
 
 pub fn put_volumes(out: &mut [u8; LINE], list: FreeList) -> usize
-    requires { ⌜ list .count ≤ 64 ⌝ }
+    requires { ⌜ list .count ≤ listedMax ⌝ }
     ensures { λ r. ⌜ r ≡ 4 + length (listText volumeText (listed list)) ⌝ }
     ensures { λ _. ⌜ now (out .exit) ≡ written (now (out .entry)) 4 (listText volumeText (listed list)) ⌝ }
 {
@@ -76,7 +78,7 @@ pub fn put_volumes(out: &mut [u8; LINE], list: FreeList) -> usize
 }
 
 pub fn put_bookings(out: &mut [u8; LINE], list: Bookings) -> usize
-    requires { ⌜ list .count ≤ 64 ⌝ }
+    requires { ⌜ list .count ≤ listedMax ⌝ }
     ensures { λ r. ⌜ r ≡ 4 + length (listText bookingText (bookedRows list)) ⌝ }
     ensures { λ _. ⌜ now (out .exit) ≡ written (now (out .entry)) 4 (listText bookingText (bookedRows list)) ⌝ }
 {
@@ -98,7 +100,7 @@ pub fn put_queues(
     classes: usize,
     queues: [Volume; Queue::CLASSES_MAX],
 ) -> usize
-    requires { ⌜ classes ≤ 8 ⌝ }
+    requires { ⌜ classes ≤ classesMax ⌝ }
     ensures { λ r. ⌜ r ≡ 4 + length (listText queueText (take classes queues)) ⌝ }
     ensures { λ _. ⌜ now (out .exit) ≡ written (now (out .entry)) 4 (listText queueText (take classes queues)) ⌝ }
 {

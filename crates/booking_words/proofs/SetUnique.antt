@@ -6,6 +6,7 @@ use lib.ListN.{length}
 use borrow.Fn.Kinds.{Dens, endedOf}
 use denote.Triple.Clauses.{AtExit}
 use contract.Lifetimes.{Lfts}
+use Rattle.units.specs.Limits.{listedMax}
 use Rattle.units.proofs.Determined.{Determined}
 use Rattle.bookings.specs.declared.BookingSegment.{BookingSegment}
 use Rattle.bookings.specs.declared.Bookings.{Bookings}
@@ -33,7 +34,7 @@ outcome-is r q h k m =
 module _ (κs : Lfts 2) (a : Dens κs set-kinds.ps) where
   -- the numbers and the count are what stands behind the references at the end, the numbers as many as the array has
   abbrev Leaves : Outcome → AtExit (endedOf 2 set-kinds.ps set-kinds.r) κs → Type 0
-  Leaves r x = (r .words ≡ x .0 .now) × (length (r .words) ≡ 192) × (r .count ≡ x .1 .0 .now) × set-reads.Post κs a (r .number) x
+  Leaves r x = (r .words ≡ x .0 .now) × (length (r .words) ≡ 3 * listedMax) × (r .count ≡ x .1 .0 .now) × set-reads.Post κs a (r .number) x
 
   pub set-unique : Determined Leaves
   set-unique r q x y f g =
@@ -43,5 +44,5 @@ module _ (κs : Lfts 2) (a : Dens κs set-kinds.ps) where
       ∙ f .3 .1
       ∙ sym (ap (λ (l : List ℕ). listIn l (q .count)) (g .0) ∙ ap (λ (n : ℕ). listIn (y .0 .now) n) (g .2) ∙ g .3 .1) in
       outcome-is r q (f .3 .0 ∙ sym (g .3 .0))
-      (same-numbers (r .words) (q .words) 64 (f .1) (g .1) (ap (λ (b : Bookings). b .segments) same))
+      (same-numbers (r .words) (q .words) listedMax (f .1) (g .1) (ap (λ (b : Bookings). b .segments) same))
       (ap (λ (b : Bookings). b .count) same)

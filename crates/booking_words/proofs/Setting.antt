@@ -8,6 +8,7 @@ use native.Mathlib.Omega.{arith}
 use lib.ListN.{length, take, drop, getD, replicate, length-take, length-drop, length-append, length-map}
 use lib.Seq.{drop-drop, length-take-le}
 use borrow.Author.Tests.{lt-ltb, le-ltb, eqb-true}
+use Rattle.units.specs.Limits.{listedMax}
 use Rattle.units.specs.Logic.{allOf}
 use Rattle.units.specs.Arrays.{padded}
 use Rattle.units.proofs.Logic.{both-fst, both-snd, all-tail}
@@ -53,7 +54,7 @@ all-drop p zero l h = h
 all-drop p (suc n) [] h = h
 all-drop p (suc n) (a ∷ l) h = all-drop p n l (all-tail p a l h)
 
-module _ (s e w : ℕ) (l : List BookingSegment) (n a b : ℕ) (size : length l ≡ 64) (le : n ≤ 64) (follows : Follows (take n l)) (unused : allOf noBooking (drop n l) ≡ true)
+module _ (s e w : ℕ) (l : List BookingSegment) (n a b : ℕ) (size : length l ≡ listedMax) (le : n ≤ listedMax) (follows : Follows (take n l)) (unused : allOf noBooking (drop n l) ≡ true)
     (p : Ended l n s a) (q : Begun l n a e b) where
   abbrev old : Bookings
   old = record { segments = l; count = n }
@@ -66,7 +67,7 @@ module _ (s e w : ℕ) (l : List BookingSegment) (n a b : ℕ) (size : length l 
   set-nothing h =
       let stays = untouched s e w l n a b (omega arith) follows p q h in
       set-fits old s e w n (sym (ap (λ (k : List BookingSegment). length k) stays ∙ len)) l le
-      (padded-is noBooking zeroBooking only-zero 64 n l size le unused ∙ ap laidOf (sym stays))
+      (padded-is noBooking zeroBooking only-zero listedMax n l size le unused ∙ ap laidOf (sym stays))
 
   -- some are: the first and the last, as they were read, and so many parts before and after
   module _ (lt : a < b) (first last : BookingSegment) (is-first : first ≡ getD l a zeroBooking) (is-last : last ≡ getD l (b - 1) zeroBooking) (h k : ℕ)
@@ -100,18 +101,18 @@ module _ (s e w : ℕ) (l : List BookingSegment) (n a b : ℕ) (size : length l 
         let lq : length (drop b (take n l)) ≡ n - b = simp (length-drop, len) in
         rw (list-is, length-append, length-append, length-append, length-append, la, lh, ls, lk, lq) (omega arith)
 
-    pub set-many : 64 < n + (h + k) → full old ≡ setBookings old s e w
+    pub set-many : listedMax < n + (h + k) → full old ≡ setBookings old s e w
     set-many m = set-full old s e w (n + (h + k)) grown m
 
-    module _ (fits : n + (h + k) ≤ 64) where
+    module _ (fits : n + (h + k) ≤ listedMax) where
       -- the places past them are zero
-      past : drop (n + (h + k)) l ≡ replicate (64 - length (setOf s e w (take n l))) zeroBooking
+      past : drop (n + (h + k)) l ≡ replicate (listedMax - length (setOf s e w (take n l))) zeroBooking
       past =
           let none : allOf noBooking (drop (n + (h + k)) l) ≡ true = rw (← drop-drop (h + k) n l) (all-drop noBooking (h + k) (drop n l) unused) in
           let m : length (take (n + (h + k)) l) ≡ n + (h + k) = length-take-le (n + (h + k)) l (omega arith) in
-          ap (drop (n + (h + k))) (padded-is noBooking zeroBooking only-zero 64 (n + (h + k)) l size fits none)
-          ∙ drop-padded 64 zeroBooking (take (n + (h + k)) l) (n + (h + k)) m
-          ∙ ap (λ (i : ℕ). replicate (64 - i) zeroBooking) grown
+          ap (drop (n + (h + k))) (padded-is noBooking zeroBooking only-zero listedMax (n + (h + k)) l size fits none)
+          ∙ drop-padded listedMax zeroBooking (take (n + (h + k)) l) (n + (h + k)) m
+          ∙ ap (λ (i : ℕ). replicate (listedMax - i) zeroBooking) grown
 
       -- the array after the moves and the writes
       module _ (one two three four : List BookingSegment) (w-shift : one ≡ take (b + (h + k)) l ++ (drop b (take n l) ++ drop (n + (h + k)) l))

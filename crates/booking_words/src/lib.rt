@@ -9,9 +9,12 @@ use units::Date;
 use units::Interval;
 use units::Priority;
 use units::Volume;
+use words::LISTED;
+use words::SEGMENTS;
 ghost use mathlib.Core.Path.{_≡_};
 ghost use Prim.Native.Nat.{_<_, _≤_};
 ghost use lib.ListN.{take, getD, set};
+ghost use Rattle.units.specs.Limits.{segmentsMax, listedMax};
 ghost use Rattle.segmentation.specs.Granted.{Covers};
 ghost use Rattle.segmentation.specs.End.{endOf};
 ghost use Rattle.bookings.specs.declared.Run.the-variants.{Idle};
@@ -24,8 +27,8 @@ ghost use Rattle.booking_words.specs.Words.{bookingsIn, zeroBooking};
 fn told(words: &[u64]) {}
 
 // The listed segment at a place.
-fn booked_at(bookings: &[u64; 192], i: usize) -> BookingSegment
-    requires { ⌜ i < 64 ⌝ }
+fn booked_at(bookings: &[u64; LISTED], i: usize) -> BookingSegment
+    requires { ⌜ i < listedMax ⌝ }
     ensures { λ r. ⌜ r ≡ getD (bookingsIn (now (bookings .entry))) i zeroBooking ⌝ }
 {
     told(bookings);
@@ -38,8 +41,8 @@ fn booked_at(bookings: &[u64; 192], i: usize) -> BookingSegment
 }
 
 // Lists a segment at a place, over the one there.
-fn put_at(bookings: &mut [u64; 192], i: usize, g: BookingSegment)
-    requires { ⌜ i < 64 ⌝ }
+fn put_at(bookings: &mut [u64; LISTED], i: usize, g: BookingSegment)
+    requires { ⌜ i < listedMax ⌝ }
     ensures { λ r. ⌜ bookingsIn (now (bookings .exit)) ≡ set (bookingsIn (now (bookings .entry))) i g ⌝ }
 {
     told(bookings);
@@ -50,8 +53,15 @@ fn put_at(bookings: &mut [u64; 192], i: usize, g: BookingSegment)
 }
 
 // A run begins, if there is an end by the window's end.
-fn begin(rates: &[u64; 48], m: usize, to: Date, start: Date, size: Volume, deadline: Date) -> Run
-    requires { ⌜ m ≤ 16 ⌝ ∗ ⌜ 0 < size .0 ⌝ ∗ ⌜ Covers (start .0) (take m (volumesIn (now rates))) ⌝ }
+fn begin(
+    rates: &[u64; SEGMENTS],
+    m: usize,
+    to: Date,
+    start: Date,
+    size: Volume,
+    deadline: Date,
+) -> Run
+    requires { ⌜ m ≤ segmentsMax ⌝ ∗ ⌜ 0 < size .0 ⌝ ∗ ⌜ Covers (start .0) (take m (volumesIn (now rates))) ⌝ }
     ensures { λ r. ⌜ r ≡ beginOf (to .0) (start .0) (endOf (take m (volumesIn (now (rates .entry)))) (start .0) (size .0) (deadline .0)) ⌝ }
 {
     let End::At(e) = words::find_end(rates, m, start, size, deadline) else {
@@ -68,7 +78,7 @@ fn begin(rates: &[u64; 48], m: usize, to: Date, start: Date, size: Volume, deadl
 
 // One segment's turn in the search.
 fn turn(
-    rates: &[u64; 48],
+    rates: &[u64; SEGMENTS],
     m: usize,
     asked: Date,
     size: Volume,
@@ -77,7 +87,7 @@ fn turn(
     g: BookingSegment,
     before: Run,
 ) -> Run
-    requires { ⌜ m ≤ 16 ⌝ ∗ ⌜ 0 < size .0 ⌝ ∗ ⌜ Covers (g .start .0) (take m (volumesIn (now rates))) ⌝ }
+    requires { ⌜ m ≤ segmentsMax ⌝ ∗ ⌜ 0 < size .0 ⌝ ∗ ⌜ Covers (g .start .0) (take m (volumesIn (now rates))) ⌝ }
     ensures { λ r. ⌜ r ≡ turnOf (ruleOf (take m (volumesIn (now (rates .entry)))) (size .0) (deadline .0)) (asked .0) (priority .0) g before ⌝ }
 {
     let first = g.start;
@@ -98,16 +108,16 @@ fn turn(
 
 // dry_run_tx: the first run of segments below the priority that reaches its end.
 pub fn find_run(
-    rates: &[u64; 48],
+    rates: &[u64; SEGMENTS],
     m: usize,
     window: Interval,
-    bookings: &[u64; 192],
+    bookings: &[u64; LISTED],
     n: usize,
     asked: Date,
     size: Volume,
     priority: Priority,
 ) -> Run
-    requires { ⌜ m ≤ 16 ⌝ ∗ ⌜ 0 < size .0 ⌝ ∗ ⌜ Covers (window .start .0) (take m (volumesIn (now rates))) ⌝ ∗ ⌜ n ≤ 64 ⌝ ∗ ⌜ From (window .start .0) (take n (bookingsIn (now bookings))) ⌝ }
+    requires { ⌜ m ≤ segmentsMax ⌝ ∗ ⌜ 0 < size .0 ⌝ ∗ ⌜ Covers (window .start .0) (take m (volumesIn (now rates))) ⌝ ∗ ⌜ n ≤ listedMax ⌝ ∗ ⌜ From (window .start .0) (take n (bookingsIn (now bookings))) ⌝ }
     ensures { λ r. ⌜ r ≡ searchOf (ruleOf (take m (volumesIn (now (rates .entry)))) (size .0) (window .end .0)) (asked .0) (priority .0) (take n (bookingsIn (now (bookings .entry)))) Idle ⌝ }
 {
     told(bookings);

@@ -7,11 +7,13 @@ use bookings::Bookings;
 use bookings::Level;
 use units::Date;
 use units::Interval;
+use words::LISTED;
 ghost use mathlib.Core.Path.{_≡_};
 ghost use mathlib.Core.Bool.{true};
 ghost use mathlib.Core.List.{_++_, map};
 ghost use Prim.Native.Nat.{_+_, _<_, _≤_};
 ghost use lib.ListN.{take, drop};
+ghost use Rattle.units.specs.Limits.{listedMax};
 ghost use Rattle.units.specs.Logic.{allOf};
 ghost use Rattle.bookings.specs.Cut.{sentOf, setBookings};
 ghost use Rattle.bookings.specs.Listed.{noBooking};
@@ -19,8 +21,8 @@ ghost use Rattle.booking_words.specs.Words.{bookingsIn, listIn};
 ghost use Rattle.booking_words.specs.Granted.{Ended, Begun, Follows};
 
 // The place of the first segment that ends after a date; the count, where there is none.
-fn first_after(bookings: &[u64; 192], n: usize, date: Date) -> usize
-    requires { ⌜ n ≤ 64 ⌝ }
+fn first_after(bookings: &[u64; LISTED], n: usize, date: Date) -> usize
+    requires { ⌜ n ≤ listedMax ⌝ }
     ensures { λ r. ⌜ Ended (bookingsIn (now (bookings .entry))) n (date .0) r ⌝ }
 {
     let mut i: usize = 0;
@@ -37,8 +39,8 @@ fn first_after(bookings: &[u64; 192], n: usize, date: Date) -> usize
 }
 
 // The place of the first segment, from a place on, that does not start before a date; the count, where there is none.
-fn first_from(bookings: &[u64; 192], n: usize, from: usize, date: Date) -> usize
-    requires { ⌜ n ≤ 64 ⌝ ∗ ⌜ from ≤ n ⌝ }
+fn first_from(bookings: &[u64; LISTED], n: usize, from: usize, date: Date) -> usize
+    requires { ⌜ n ≤ listedMax ⌝ ∗ ⌜ from ≤ n ⌝ }
     ensures { λ r. ⌜ Begun (bookingsIn (now (bookings .entry))) n from (date .0) r ⌝ }
 {
     let mut i = from;
@@ -55,8 +57,8 @@ fn first_from(bookings: &[u64; 192], n: usize, from: usize, date: Date) -> usize
 }
 
 // The segments from a place on moved up by so many places.
-fn shift(bookings: &mut [u64; 192], n: usize, i: usize, by: usize)
-    requires { ⌜ i ≤ n ⌝ ∗ ⌜ n + by ≤ 64 ⌝ }
+fn shift(bookings: &mut [u64; LISTED], n: usize, i: usize, by: usize)
+    requires { ⌜ i ≤ n ⌝ ∗ ⌜ n + by ≤ listedMax ⌝ }
     ensures { λ r. ⌜ bookingsIn (now (bookings .exit)) ≡ take (i + by) (bookingsIn (now (bookings .entry))) ++ (drop i (take n (bookingsIn (now (bookings .entry)))) ++ drop (n + by) (bookingsIn (now (bookings .entry)))) ⌝ }
 {
     told(bookings);
@@ -71,14 +73,14 @@ fn shift(bookings: &mut [u64; 192], n: usize, i: usize, by: usize)
 
 // The segments of a stretch of places, moved up by so many, each with what is in the send interval, at the level.
 fn set_between(
-    bookings: &mut [u64; 192],
+    bookings: &mut [u64; LISTED],
     a: usize,
     b: usize,
     by: usize,
     send: Interval,
     level: Level,
 )
-    requires { ⌜ a ≤ b ⌝ ∗ ⌜ b + by ≤ 64 ⌝ }
+    requires { ⌜ a ≤ b ⌝ ∗ ⌜ b + by ≤ listedMax ⌝ }
     ensures { λ r. ⌜ bookingsIn (now (bookings .exit)) ≡ take (a + by) (bookingsIn (now (bookings .entry))) ++ (map (sentOf (send .start .0) (send .end .0) (level .0)) (drop a (take b (bookingsIn (now (bookings .entry))))) ++ drop (b + by) (bookingsIn (now (bookings .entry)))) ⌝ }
 {
     told(bookings);
@@ -104,8 +106,8 @@ fn set_between(
 }
 
 // [send start, send end) set to the level; 10, and the list as it was, where it would be longer than 64.
-pub fn set(bookings: &mut [u64; 192], count: &mut usize, send: Interval, level: Level) -> u8
-    requires { ⌜ now count ≤ 64 ⌝ ∗ ⌜ Follows (take (now count) (bookingsIn (now bookings))) ⌝ ∗ ⌜ allOf noBooking (drop (now count) (bookingsIn (now bookings))) ≡ true ⌝ }
+pub fn set(bookings: &mut [u64; LISTED], count: &mut usize, send: Interval, level: Level) -> u8
+    requires { ⌜ now count ≤ listedMax ⌝ ∗ ⌜ Follows (take (now count) (bookingsIn (now bookings))) ⌝ ∗ ⌜ allOf noBooking (drop (now count) (bookingsIn (now bookings))) ≡ true ⌝ }
     ensures { λ r. ⌜ r ≡ setBookings (listIn (now (bookings .entry)) (now (count .entry))) (send .start .0) (send .end .0) (level .0) .number ⌝ ∗ ⌜ listIn (now (bookings .exit)) (now (count .exit)) ≡ setBookings (listIn (now (bookings .entry)) (now (count .entry))) (send .start .0) (send .end .0) (level .0) .bookings ⌝ }
 {
     told(bookings);

@@ -9,13 +9,13 @@ use borrow.Author.Tests.{eqb-true, leb-true, eq-eqb, ne-eqb, le-leb, lt-leb}
 use Rattle.units.specs.Logic.{both}
 use Rattle.units.proofs.Logic.{both-fst, both-snd, both-go, both-stop, both-yes}
 use Rattle.bookings.specs.declared.BookingSegment.{BookingSegment}
-use Rattle.bookings.specs.Listed.{follows, coverOk}
+use Rattle.bookings.specs.Listed.{levelMax, follows, coverOk}
 use Rattle.bookings.specs.Granted.{From}
 
 -- from a to b without a gap, each segment forward, each level 0 to 128
 unfoldable pub Cover : ℕ → ℕ → List BookingSegment → Type 0
 Cover a b [] = a ≡ b
-Cover a b (g ∷ f) = (g .start .0 ≡ a) × (g .start .0 ≤ g .end .0) × (g .level .0 ≤ 128) × (Cover (g .end .0) b f)
+Cover a b (g ∷ f) = (g .start .0 ≡ a) × (g .start .0 ≤ g .end .0) × (g .level .0 ≤ levelMax) × (Cover (g .end .0) b f)
 
 pub cover-of : (a b : ℕ) (f : List BookingSegment) → coverOk a b f ≡ true → Cover a b f
 unfolding coverOk follows Cover
@@ -55,7 +55,7 @@ module _ (good : Bool) (a : ℕ) (g : BookingSegment) where
       unfolding follows
       follows-back j = both-go good (follows a g) h ∙ both-go _ _ (eq-eqb _ _ k) ∙ both-stop _ _ (lt-leb _ _ j)
 
-      pub follows-on : g .start .0 ≤ g .end .0 → both good (follows a g) ≡ leb (g .level .0) 128
+      pub follows-on : g .start .0 ≤ g .end .0 → both good (follows a g) ≡ leb (g .level .0) levelMax
       unfolding follows
       follows-on j = both-go good (follows a g) h ∙ both-go _ _ (eq-eqb _ _ k) ∙ both-go _ _ (le-leb _ _ j)
 

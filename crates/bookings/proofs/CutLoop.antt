@@ -5,6 +5,7 @@ use mathlib.Core.List.{List, [], _∷_, _++_, append-assoc, append-nil}
 use native.Mathlib.Omega.{arith}
 use lib.ListN.{length, take, drop, getD, set, replicate, length-take, length-append}
 use borrow.Author.Tests.{le-leb, lt-leb}
+use Rattle.units.specs.Limits.{listedMax}
 use Rattle.units.proofs.Arrays.{padded-none}
 use Rattle.units.proofs.Loop.{Left, left-first}
 use Rattle.units.proofs.Places.{place-end, place-here, place-step}
@@ -56,8 +57,8 @@ pub record Growing (s e w : ℕ) (l : List BookingSegment) (n i m : ℕ) : Type 
   pub small : m ≤ 3 * i
 
 module _ (s e w : ℕ) (old : List BookingSegment) (n : ℕ) where
-  pub lay-first : Laying s e w (take n old) n 0 0 (replicate 64 (segment 0 0 0))
-  lay-first = record { done = []; left = left-first _ _ _ _; count = refl; is = padded-none 64 (segment 0 0 0) }
+  pub lay-first : Laying s e w (take n old) n 0 0 (replicate listedMax (segment 0 0 0))
+  lay-first = record { done = []; left = left-first _ _ _ _; count = refl; is = padded-none listedMax (segment 0 0 0) }
 
   pub grow-first : Growing s e w (take n old) n 0 0
   grow-first = record { left = left-first _ _ _ _; small = omega arith }
@@ -77,9 +78,9 @@ module _ (s e w : ℕ) (old : List BookingSegment) (n : ℕ) where
     abbrev rest : List BookingSegment
     rest = drop (i + 1) (take n old)
 
-    module _ (out : List BookingSegment) (q : Laying s e w (take n old) n i m out) (fit : length (setOf s e w (take n old)) ≤ 64) where
+    module _ (out : List BookingSegment) (q : Laying s e w (take n old) n i m out) (fit : length (setOf s e w (take n old)) ≤ listedMax) where
       -- the array has room for them
-      pub lay-room : m + c .befores + c .afters < 64
+      pub lay-room : m + c .befores + c .afters < listedMax
       lay-room =
           let a = place-here (layOn s e w) old n [] i (q .done) (q .left) z size lt in
           let b : length (setOf s e w (take n old)) ≡ length (q .done) + length (setOf s e w (getD old i z ∷ rest)) =
@@ -98,7 +99,7 @@ module _ (s e w : ℕ) (old : List BookingSegment) (n : ℕ) where
             count = length-append (q .done) (laidParts c) ∙ omega (arith, q .count, parts-length s e w (getD old i z) c cut rest);
             is =
                 rw (q .is)
-                (store-three 64 (segment 0 0 0) m (c .befores) (c .afters) (q .done) (c .before) (c .middle) (c .after) (cut .few) (cut .less) (cut .again) (q .count) lay-room);
+                (store-three listedMax (segment 0 0 0) m (c .befores) (c .afters) (q .done) (c .before) (c .middle) (c .after) (cut .few) (cut .less) (cut .again) (q .count) lay-room);
           }
 
     pub grow-step : Growing s e w (take n old) n i m → Growing s e w (take n old) n (i + 1) (m + c .befores + c .afters + 1)
@@ -120,10 +121,10 @@ abbrev pub kept : List BookingSegment → ℕ → Set
 kept out k = record { number = 0; bookings = record { segments = out; count = k } }
 
 module _ (r : Bookings) (s e w k : ℕ) (is : k ≡ length (setOf s e w (listed r))) where
-  pub set-full : 64 < k → full r ≡ setBookings r s e w
+  pub set-full : listedMax < k → full r ≡ setBookings r s e w
   unfolding setBookings
-  set-full h = let many : 64 < length (setOf s e w (listed r)) = omega arith in rw (lt-leb _ _ many)
+  set-full h = let many : listedMax < length (setOf s e w (listed r)) = omega arith in rw (lt-leb _ _ many)
 
-  pub set-fits : (out : List BookingSegment) → k ≤ 64 → out ≡ laidOf (setOf s e w (listed r)) → kept out k ≡ setBookings r s e w
+  pub set-fits : (out : List BookingSegment) → k ≤ listedMax → out ≡ laidOf (setOf s e w (listed r)) → kept out k ≡ setBookings r s e w
   unfolding setBookings
-  set-fits out h o = let few : length (setOf s e w (listed r)) ≤ 64 = omega arith in rw (le-leb _ _ few, o, is)
+  set-fits out h o = let few : length (setOf s e w (listed r)) ≤ listedMax = omega arith in rw (le-leb _ _ few, o, is)

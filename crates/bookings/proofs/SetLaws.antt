@@ -12,14 +12,14 @@ use Rattle.units.specs.Logic.{both, pick}
 use Rattle.units.proofs.Logic.{both-stop, both-not, both-yes}
 use Rattle.units.proofs.Numbers.{le-or-lt}
 use Rattle.bookings.specs.declared.BookingSegment.{BookingSegment}
-use Rattle.bookings.specs.Listed.{coverOk}
+use Rattle.bookings.specs.Listed.{levelMax, coverOk}
 use Rattle.bookings.specs.Cut.{setOf}
 use Rattle.bookings.proofs.Forms.{Form, early, late, whole, left, right, inside, form}
 use Rattle.bookings.proofs.CoverLaws.{Cover, cover-of, cover-true}
 
-module _ (s e w : ℕ) (order : s ≤ e) (low : w ≤ 128) where
+module _ (s e w : ℕ) (order : s ≤ e) (low : w ≤ levelMax) where
   form-cover : (g : BookingSegment) (f : List BookingSegment) (b : ℕ) (l : List BookingSegment) → Form s e w g l
-      → g .start .0 ≤ g .end .0 → g .level .0 ≤ 128 → Cover (g .end .0) b f → Cover (g .start .0) b (l ++ f)
+      → g .start .0 ≤ g .end .0 → g .level .0 ≤ levelMax → Cover (g .end .0) b f → Cover (g .start .0) b (l ++ f)
   unfolding Cover
   form-cover g f b l (early h q) a k r = rw q (refl, a, k, r)
   form-cover g f b l (late h i q) a k r = rw q (refl, a, k, r)

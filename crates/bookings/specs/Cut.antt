@@ -4,6 +4,7 @@ use mathlib.Core.Bool.{Bool}
 use mathlib.Core.List.{List, [], _∷_, _++_}
 use lib.Dec.{leb, ltb}
 use lib.ListN.{length}
+use Rattle.units.specs.Limits.{listedMax}
 use Rattle.units.specs.Logic.{both, pick, unless}
 use Rattle.units.specs.Arrays.{padded}
 use Rattle.bookings.specs.declared.BookingSegment.{BookingSegment}
@@ -41,10 +42,10 @@ setOf s e w (g ∷ f) = partsOf s e w g ++ setOf s e w f
 
 -- the list in its array
 abbrev pub laidOf : List BookingSegment → List BookingSegment
-laidOf f = padded 64 (segment 0 0 0) f
+laidOf f = padded listedMax (segment 0 0 0) f
 
 -- refusal 10: the booking would leave more than 64 listed segments
 unfoldable pub setBookings : Bookings → ℕ → ℕ → ℕ → Set
 setBookings r s e w =
-    unless (leb (length (setOf s e w (listed r))) 64) (record { number = 10; bookings = r })
+    unless (leb (length (setOf s e w (listed r))) listedMax) (record { number = 10; bookings = r })
     (record { number = 0; bookings = record { segments = laidOf (setOf s e w (listed r)); count = length (setOf s e w (listed r)) } })

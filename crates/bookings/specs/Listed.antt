@@ -1,10 +1,11 @@
 -- 01, "Records", Bookings: each start <= end, covering the window without a gap, values -1 to 127.
-use Prim.Native.Nat.{ℕ, zero, suc}
+use Prim.Native.Nat.{ℕ, zero, suc, _+_}
 use mathlib.Core.Bool.{Bool}
 use mathlib.Core.List.{List, [], _∷_}
 use lib.Dec.{leb, ltb, eqb}
 use lib.IntN.{ℤ, pos, negsuc}
 use lib.ListN.{take}
+use Rattle.units.specs.Limits.{priorityMax}
 use Rattle.units.specs.Logic.{both, pick}
 use Rattle.bookings.specs.declared.Level.{Level}
 use Rattle.bookings.specs.declared.BookingSegment.{BookingSegment}
@@ -18,9 +19,13 @@ valueOf w = shown (w .0)
     shown zero = negsuc 0
     shown (suc n) = pos n
 
+-- the level of the highest priority
+abbrev pub levelMax : ℕ
+levelMax = priorityMax + 1
+
 -- the segment starts at a, goes forward, and its value is -1 to 127
 unfoldable pub follows : ℕ → BookingSegment → Bool
-follows a g = both (eqb (g .start .0) a) (both (leb (g .start .0) (g .end .0)) (leb (g .level .0) 128))
+follows a g = both (eqb (g .start .0) a) (both (leb (g .start .0) (g .end .0)) (leb (g .level .0) levelMax))
 
 -- the segments cover a to b without a gap
 unfoldable pub coverOk : ℕ → ℕ → List BookingSegment → Bool

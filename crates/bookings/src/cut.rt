@@ -9,6 +9,7 @@ use units::Interval;
 ghost use mathlib.Core.Path.{_≡_};
 ghost use Prim.Native.Nat.{_≤_};
 ghost use lib.ListN.{length, take};
+ghost use Rattle.units.specs.Limits.{listedMax};
 ghost use Rattle.bookings.specs.Cut.{setOf, laidOf, setBookings};
 ghost use Rattle.bookings.specs.Granted.{Cuts};
 
@@ -102,7 +103,7 @@ pub fn laid(
     send: Interval,
     level: Level,
 ) -> [BookingSegment; Bookings::COUNT_MAX]
-    requires { ⌜ n ≤ 64 ⌝ ∗ ⌜ length (setOf (send .start .0) (send .end .0) (level .0) (take n old)) ≤ 64 ⌝ }
+    requires { ⌜ n ≤ listedMax ⌝ ∗ ⌜ length (setOf (send .start .0) (send .end .0) (level .0) (take n old)) ≤ listedMax ⌝ }
     ensures { λ r. ⌜ r ≡ laidOf (setOf (send .start .0) (send .end .0) (level .0) (take n old)) ⌝ }
 {
     let blank = BookingSegment {
@@ -137,7 +138,7 @@ pub fn grown(
     send: Interval,
     level: Level,
 ) -> usize
-    requires { ⌜ n ≤ 64 ⌝ }
+    requires { ⌜ n ≤ listedMax ⌝ }
     ensures { λ r. ⌜ r ≡ length (setOf (send .start .0) (send .end .0) (level .0) (take n old)) ⌝ }
 {
     let mut i: usize = 0;
@@ -156,7 +157,7 @@ pub fn grown(
 impl Bookings {
     // The list with [send start, send end) set to the level; 10 where it would be longer than 64.
     pub fn set(self, send: Interval, level: Level) -> Set
-        requires { ⌜ self .count ≤ 64 ⌝ }
+        requires { ⌜ self .count ≤ listedMax ⌝ }
         ensures { λ r. ⌜ r ≡ setBookings self (send .start .0) (send .end .0) (level .0) ⌝ }
     {
         let old = self.segments;

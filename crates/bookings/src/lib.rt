@@ -9,6 +9,7 @@ use units::Volume;
 ghost use mathlib.Core.Path.{_≡_};
 ghost use Prim.Native.Nat.{ℕ, _+_, _<_, _≤_};
 ghost use lib.ListN.{length, take, drop};
+ghost use Rattle.units.specs.Limits.{priorityMax, segmentsMax, listedMax};
 ghost use Rattle.units.specs.Logic.{both, allOf};
 ghost use Rattle.segmentation.specs.Granted.{Covers};
 ghost use Rattle.segmentation.specs.End.{endOf};
@@ -38,15 +39,15 @@ pub struct Bookings {
 }
 
 impl Bookings {
-    pub const COUNT_MAX: usize = 64;
+    pub const COUNT_MAX: usize = Interval::LISTED_MAX;
 }
 
 impl Level {
-    pub const MAX: u64 = 128;
+    pub const MAX: u64 = Priority::MAX as u64 + 1;
 
     // From a priority to the level that it is booked at.
     pub fn of(priority: Priority) -> Level
-        requires { ⌜ priority .0 ≤ 127 ⌝ }
+        requires { ⌜ priority .0 ≤ priorityMax ⌝ }
         ensures { λ r. ⌜ r .0 ≡ priority .0 + 1 ⌝ }
     {
         Level(priority.0 as u64 + 1)
@@ -98,7 +99,7 @@ pub fn goes_on(good: bool, at: Date, g: BookingSegment) -> bool
 
 // Do the segments cover the window without a gap?
 pub fn cover_ok(segments: [BookingSegment; Bookings::COUNT_MAX], n: usize, window: Interval) -> bool
-    requires { ⌜ n ≤ 64 ⌝ }
+    requires { ⌜ n ≤ listedMax ⌝ }
     ensures { λ r. ⌜ r ≡ coverOk (window .start .0) (window .end .0) (take n segments) ⌝ }
 {
     let hi = window.end;
@@ -134,7 +135,7 @@ pub fn no_booking(g: BookingSegment) -> bool
 
 // Is nothing in the places from the count on?
 pub fn unused(segments: [BookingSegment; Bookings::COUNT_MAX], count: usize) -> bool
-    requires { ⌜ count ≤ 64 ⌝ }
+    requires { ⌜ count ≤ listedMax ⌝ }
     ensures { λ r. ⌜ r ≡ allOf noBooking (drop count segments) ⌝ }
 {
     let mut i = count;
@@ -170,7 +171,7 @@ pub fn begin(
     size: Volume,
     deadline: Date,
 ) -> Run
-    requires { ⌜ m ≤ 16 ⌝ ∗ ⌜ 0 < size .0 ⌝ ∗ ⌜ Covers (start .0) (take m rates) ⌝ }
+    requires { ⌜ m ≤ segmentsMax ⌝ ∗ ⌜ 0 < size .0 ⌝ ∗ ⌜ Covers (start .0) (take m rates) ⌝ }
     ensures { λ r. ⌜ r ≡ beginOf (to .0) (start .0) (endOf (take m rates) (start .0) (size .0) (deadline .0)) ⌝ }
 {
     let End::At(e) = segmentation::find_end(rates, m, start, size, deadline) else {
@@ -207,7 +208,7 @@ pub fn turn(
     g: BookingSegment,
     now: Run,
 ) -> Run
-    requires { ⌜ m ≤ 16 ⌝ ∗ ⌜ 0 < size .0 ⌝ ∗ ⌜ Covers (g .start .0) (take m rates) ⌝ }
+    requires { ⌜ m ≤ segmentsMax ⌝ ∗ ⌜ 0 < size .0 ⌝ ∗ ⌜ Covers (g .start .0) (take m rates) ⌝ }
     ensures { λ r. ⌜ r ≡ turnOf (ruleOf (take m rates) (size .0) (deadline .0)) (asked .0) (priority .0) g now ⌝ }
 {
     let first = g.start;
@@ -244,7 +245,7 @@ pub fn find_run(
     size: Volume,
     priority: Priority,
 ) -> Run
-    requires { ⌜ m ≤ 16 ⌝ ∗ ⌜ 0 < size .0 ⌝ ∗ ⌜ Covers (window .start .0) (take m rates) ⌝ ∗ ⌜ n ≤ 64 ⌝ ∗ ⌜ From (window .start .0) (take n segments) ⌝ }
+    requires { ⌜ m ≤ segmentsMax ⌝ ∗ ⌜ 0 < size .0 ⌝ ∗ ⌜ Covers (window .start .0) (take m rates) ⌝ ∗ ⌜ n ≤ listedMax ⌝ ∗ ⌜ From (window .start .0) (take n segments) ⌝ }
     ensures { λ r. ⌜ r ≡ searchOf (ruleOf (take m rates) (size .0) (window .end .0)) (asked .0) (priority .0) (take n segments) Idle ⌝ }
 {
     let deadline = window.end;

@@ -4,6 +4,7 @@ use mathlib.Core.Path.{_≡_}
 use mathlib.Core.List.{List, [], _∷_, map}
 use lib.IntN.{pos}
 use lib.ListN.{length, take}
+use Rattle.units.specs.Limits.{segmentsMax}
 use Rattle.units.specs.declared.Date.{Date}
 use Rattle.units.specs.declared.Volume.{Volume}
 use Rattle.units.specs.declared.Bundle.{Bundle}
@@ -29,7 +30,7 @@ use Rattle.poly_seg.specs.Open.{openOf as openPolynomial}
 use Rattle.poly_seg.specs.List.{listOf as listPolynomial}
 use Rattle.legacy.specs.declared.Opened.{Opened as QueueOpened}
 use Rattle.legacy.specs.declared.Listing.{Listing as QueueListing}
-use Rattle.legacy.specs.Open.{openOf as openQueue}
+use Rattle.legacy.specs.Open.{classesMax, openOf as openQueue}
 use Rattle.legacy.specs.List.{listOf as listQueue}
 use Rattle.held.specs.declared.Kind.{Kind}
 use Rattle.held.specs.declared.Kind.the-variants.{Nothing, Free, Priority, Polynomial, Queue}
@@ -42,10 +43,10 @@ use Rattle.cases.specs.Words.{free, priority, polynomial, queue, dryRun,
 
 -- the figures in their arrays
 abbrev pub rateArray : List RateSegment → List RateSegment
-rateArray l = padded 16 (rate 0 0 0) l
+rateArray l = padded segmentsMax (rate 0 0 0) l
 
 abbrev pub delayArray : List DelaySegment → List DelaySegment
-delayArray l = padded 16 zeroDelay l
+delayArray l = padded segmentsMax zeroDelay l
 
 -- an opening's number, and what is held after it
 unfoldable pub openingOf : Opening → Done
@@ -58,7 +59,7 @@ openingOf (polynomial w c z d) =
     let o : PolynomialOpened = openPolynomial w (record { coefficients = c; offset = record { 0 = z } }) (delayArray d) (length d) in
     keptPolynomial nothing (o .number) (o .manager)
 openingOf (queue w r d n f b) =
-    let o : QueueOpened = openQueue w (record { 0 = r }) (record { 0 = d }) n f (padded 8 (record { 0 = 0 }) b) in
+    let o : QueueOpened = openQueue w (record { 0 = r }) (record { 0 = d }) n f (padded classesMax (record { 0 = 0 }) b) in
     keptQueue nothing (o .number) (o .manager)
 
 abbrev pub volumeRow : VolumeSegment → Row

@@ -4,6 +4,7 @@ use mathlib.Core.Bool.{true}
 use mathlib.Core.Path.{_≡_}
 use mathlib.Core.List.{List}
 use lib.ListN.{take}
+use Rattle.units.specs.Limits.{segmentsMax}
 use Rattle.units.specs.declared.Interval.{Interval}
 use Rattle.units.specs.Logic.{allOf}
 use Rattle.units.proofs.Logic.{both-fst, both-snd}
@@ -16,7 +17,7 @@ module _ (w : Interval) (n : ℕ) (l : List DelaySegment) (e : delaysOk w n l �
   unfolding delaysOk
   delays-some = covers-some delaySpan w n l (both-fst _ _ e)
 
-  pub delays-most : n ≤ 16
+  pub delays-most : n ≤ segmentsMax
   unfolding delaysOk
   delays-most = covers-most delaySpan w n l (both-fst _ _ e)
 

@@ -7,6 +7,7 @@ use native.Mathlib.Nat.{mul-div-left}
 use native.Mathlib.Omega.{arith}
 use lib.ListN.{length, take, length-take, length-map}
 use borrow.Author.Tests.{eq-eqb}
+use Rattle.units.specs.Limits.{segmentsMax}
 use Rattle.units.specs.declared.Interval.{Interval}
 use Rattle.units.specs.Logic.{both, allOf}
 use Rattle.units.proofs.Logic.{both-yes, all-go, all-none}
@@ -70,35 +71,35 @@ unfolding noDelay both
 zero-delay = refl
 
 module _ (w : Interval) (rates : List RateSegment) (m : ℕ) (delays : List DelaySegment) (k : ℕ) where
-  module _ (rate-size : length rates ≡ 16) (p : Passed w rates m delays k) where
+  module _ (rate-size : length rates ≡ segmentsMax) (p : Passed w rates m delays k) where
     volumes-size : length (map volumeOf (take m rates)) ≡ m
-    volumes-size = let most : m ≤ 16 = covers-most rateSpan w m rates (p .rate) in simp (length-map, length-take) (omega arith)
+    volumes-size = let most : m ≤ segmentsMax = covers-most rateSpan w m rates (p .rate) in simp (length-map, length-take) (omega arith)
 
     -- the places that the contact uses
     volumes-front : take m (contactOf w rates m delays k .rates) ≡ map volumeOf (take m rates)
-    volumes-front = take-padded 16 zeroVolume _ m volumes-size
+    volumes-front = take-padded segmentsMax zeroVolume _ m volumes-size
 
     pub passed-total : totalOf (take m rates) ≡ volumeSum (take m (contactOf w rates m delays k .rates))
     passed-total = total-sum (take m rates) ∙ ap volumeSum (sym volumes-front)
 
-    pub passed-ok : length delays ≡ 16 → contactOk (contactOf w rates m delays k) ≡ true
+    pub passed-ok : length delays ≡ segmentsMax → contactOk (contactOf w rates m delays k) ≡ true
     unfolding contactOk
     passed-ok delay-size =
-        let most : k ≤ 16 = delays-most w k delays (p .delay) in
+        let most : k ≤ segmentsMax = delays-most w k delays (p .delay) in
         let size : length (take k delays) ≡ k = simp length-take (omega arith) in
         let forth : Forward (take m rates) = rates-forward w m rates (p .window) (p .rate) in
         let front : take m (map rateSegment (contactOf w rates m delays k .rates)) ≡ take m rates =
         take-map rateSegment m _ ∙ ap (map rateSegment) volumes-front ∙ rates-back (take m rates) forth in
         let again : Passed w (map rateSegment (contactOf w rates m delays k .rates)) m (contactOf w rates m delays k .delays) k =
-        passed-takes w rates _ m delays _ k (sym front) (sym (take-padded 16 zeroDelay _ k size)) p in
+        passed-takes w rates _ m delays _ k (sym front) (sym (take-padded segmentsMax zeroDelay _ k size)) p in
         both-yes _ _ (eq-eqb _ _ (ap (λ (r : Opened). r .number) (done _ _ _ _ _ again)))
         (both-yes _ _ (ap (allOf wholeOf) volumes-front ∙ whole-back (take m rates) forth)
-        (both-yes _ _ (unused-padded 16 zeroVolume noVolume _ m volumes-size zero-volume)
-        (unused-padded 16 zeroDelay noDelay _ k size zero-delay)))
+        (both-yes _ _ (unused-padded segmentsMax zeroVolume noVolume _ m volumes-size zero-volume)
+        (unused-padded segmentsMax zeroDelay noDelay _ k size zero-delay)))
 
-  pub opened-ok : length rates ≡ 16 → length delays ≡ 16 → openContact w rates m delays k .number ≡ 0 → contactOk (openContact w rates m delays k .contact) ≡ true
+  pub opened-ok : length rates ≡ segmentsMax → length delays ≡ segmentsMax → openContact w rates m delays k .number ≡ 0 → contactOk (openContact w rates m delays k .contact) ≡ true
   opened-ok a b e =
       let o = opened-is w rates m delays k e in ap (λ (r : Opened). contactOk (r .contact)) (o .0) ∙ passed-ok a (o .1) b
 
-  pub opened-total : length rates ≡ 16 → openContact w rates m delays k .number ≡ 0 → totalOf (take m rates) ≡ volumeSum (take m (contactOf w rates m delays k .rates))
+  pub opened-total : length rates ≡ segmentsMax → openContact w rates m delays k .number ≡ 0 → totalOf (take m rates) ≡ volumeSum (take m (contactOf w rates m delays k .rates))
   opened-total a e = passed-total a (passed w rates m delays k e)

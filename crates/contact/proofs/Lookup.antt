@@ -1,11 +1,12 @@
 -- The delay lookups of a contact that keeps its rules: short, and found for every date of the window.
-use Prim.Native.Nat.{ℕ, _<_, _≤_, _^_}
+use Prim.Native.Nat.{ℕ, _<_, _≤_}
 use mathlib.Core.Bool.{true}
 use mathlib.Core.Path.{_≡_, sym, ap, _∙_}
 use mathlib.Core.List.{List, [], _∷_}
 use native.Mathlib.Omega.{arith}
 use lib.ListN.{length, take, length-take}
 use borrow.Author.Tests.{leb-true, eqb-true}
+use Rattle.units.specs.Limits.{segmentsMax}
 use Rattle.units.specs.Logic.{allOf}
 use Rattle.units.proofs.Logic.{all-head, all-tail}
 use Rattle.segmentation.specs.declared.DelaySegment.{DelaySegment}
@@ -29,7 +30,7 @@ last-end b [] a e = eqb-true a b (sym (spans-end delaySpan b a) ∙ e)
 last-end b (s ∷ l) a e = last-end b l (s .end .0) (spans-rest delaySpan b s l a e)
 
 -- 8 is never the answer: both lookups find a segment
-pub contact-finds : (c : Contact) → Sound c → length (c .delays) ≡ 16 → (s e : ℕ) → s ≤ e → e ≤ c .window .end .0 → Finds (delaysOf (delayList c) s e)
+pub contact-finds : (c : Contact) → Sound c → length (c .delays) ≡ segmentsMax → (s e : ℕ) → s ≤ e → e ≤ c .window .end .0 → Finds (delaysOf (delayList c) s e)
 contact-finds c q len s e h k =
     let some : 0 < length (delayList c) = simp length-take (omega (arith, q .delays .0, q .delays .1)) in
     let end : lastEnd (c .window .start .0) (delayList c) ≡ c .window .end .0 = last-end _ _ _ (q .covered) in

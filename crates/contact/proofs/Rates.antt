@@ -1,5 +1,5 @@
 -- Laws of rate segments: what the opening's tests tell of each, and their total in one pass.
-use Prim.Native.Nat.{ℕ, _+_, _-_, _*_, _<_, _≤_, _^_}
+use Prim.Native.Nat.{ℕ, _+_, _-_, _*_, _<_, _≤_}
 use mathlib.Core.Bool.{true}
 use mathlib.Core.Path.{_≡_, ap}
 use mathlib.Core.List.{List, [], _∷_}
@@ -9,7 +9,7 @@ use lib.Dec.{leb}
 use lib.ListN.{length, take, getD}
 use borrow.Author.Tests.{leb-true, le-leb, lt-leb}
 use Rattle.units.specs.declared.Interval.{Interval}
-use Rattle.units.specs.Limits.{windowOk}
+use Rattle.units.specs.Limits.{lengthMax, volumeMax, rateMax, windowOk}
 use Rattle.units.specs.Logic.{both, pick, allOf}
 use Rattle.units.proofs.Logic.{both-stop, both-not, both-fst, both-yes, all-go, all-stop, all-none, all-head, all-tail}
 use Rattle.units.proofs.Windows.{Window, window}
@@ -24,7 +24,7 @@ use Rattle.contact.specs.Granted.{Spanning, Fitting, Forward, AllFitting
 use Rattle.contact.proofs.Spans.{Inside, spans-inside, spans-rest, covers-spans}
 
 -- segments that are the window are forward
-pub forward : (lo b : ℕ) (l : List RateSegment) (a : ℕ) → lo ≤ a → b ≤ lo + 2 ^ 24 → spans rateSpan a b l ≡ true → Forward l
+pub forward : (lo b : ℕ) (l : List RateSegment) (a : ℕ) → lo ≤ a → b ≤ lo + lengthMax → spans rateSpan a b l ≡ true → Forward l
 unfolding Forward
 forward lo b [] a h k e = tt
 forward lo b (s ∷ l) a h k e =
@@ -59,31 +59,31 @@ module _ (l : List RateSegment) (n i : ℕ) (z : RateSegment) (size : n ≤ leng
 
 -- the total in one pass, from the sum reached on
 abbrev pub totalFrom : ℕ → List RateSegment → Total
-totalFrom v l = pick (both (allOf rateOk l) (leb (v + totalOf l) (2 ^ 38))) (Of (record { 0 = v + totalOf l })) Over
+totalFrom v l = pick (both (allOf rateOk l) (leb (v + totalOf l) volumeMax)) (Of (record { 0 = v + totalOf l })) Over
 
 pub total-first : (l : List RateSegment) → totalWithin l ≡ totalFrom 0 l
 unfolding volumeOk
 total-first l = rw (zero-add (totalOf l))
 
-pub total-end : (v : ℕ) → v ≤ 2 ^ 38 → totalFrom v [] ≡ Of (record { 0 = v })
+pub total-end : (v : ℕ) → v ≤ volumeMax → totalFrom v [] ≡ Of (record { 0 = v })
 unfolding totalOf
-total-end v h = rw (add-zero v, both-yes (allOf rateOk []) (leb v (2 ^ 38)) (all-none rateOk) (le-leb _ _ h))
+total-end v h = rw (add-zero v, both-yes (allOf rateOk []) (leb v volumeMax) (all-none rateOk) (le-leb _ _ h))
 
 module _ (v : ℕ) (s : RateSegment) (l : List RateSegment) where
-  pub total-fast : 2 ^ 38 < s .rate .0 → totalFrom v (s ∷ l) ≡ Over
-  total-fast h = rw (both-stop (allOf rateOk (s ∷ l)) (leb (v + totalOf (s ∷ l)) (2 ^ 38)) (all-stop rateOk s l (lt-leb _ _ h)))
+  pub total-fast : rateMax < s .rate .0 → totalFrom v (s ∷ l) ≡ Over
+  total-fast h = rw (both-stop (allOf rateOk (s ∷ l)) (leb (v + totalOf (s ∷ l)) volumeMax) (all-stop rateOk s l (lt-leb _ _ h)))
 
   module _ (r : VolumeSegment) (is : r ≡ volumeOf s) where
     holds : r .volume .0 ≡ s .rate .0 * (s .end .0 - s .start .0)
     holds = ap (λ (g : VolumeSegment). g .volume .0) is
 
-    pub total-over : 2 ^ 38 - v < r .volume .0 → totalFrom v (s ∷ l) ≡ Over
+    pub total-over : volumeMax - v < r .volume .0 → totalFrom v (s ∷ l) ≡ Over
     unfolding totalOf
     total-over h =
-        let more : 2 ^ 38 < v + (s .rate .0 * (s .end .0 - s .start .0) + totalOf l) = omega (arith, holds) in
+        let more : volumeMax < v + (s .rate .0 * (s .end .0 - s .start .0) + totalOf l) = omega (arith, holds) in
         rw (both-not (allOf rateOk (s ∷ l)) _ (lt-leb _ _ more))
 
-    pub total-go : s .rate .0 ≤ 2 ^ 38 → totalFrom v (s ∷ l) ≡ totalFrom (v + r .volume .0) l
+    pub total-go : s .rate .0 ≤ rateMax → totalFrom v (s ∷ l) ≡ totalFrom (v + r .volume .0) l
     unfolding totalOf
     total-go h =
         rw (holds, all-go rateOk s l (le-leb _ _ h), add-assoc v (s .rate .0 * (s .end .0 - s .start .0)) (totalOf l))

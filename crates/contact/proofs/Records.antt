@@ -7,7 +7,7 @@ use lib.ListN.{take, drop}
 use borrow.Author.Tests.{eqb-true, eq-eqb}
 use Rattle.units.specs.declared.Interval.{Interval}
 use Rattle.units.specs.Logic.{both, allOf}
-use Rattle.units.specs.Limits.{windowOk}
+use Rattle.units.specs.Limits.{segmentsMax, windowOk}
 use Rattle.units.proofs.Logic.{both-fst, both-snd, both-yes, same-test}
 use Rattle.units.proofs.Counted.{counted-some, counted-most, counted-is, counted-holds}
 use Rattle.units.proofs.Arrays.{take-map}
@@ -32,24 +32,24 @@ module _ (w : Interval) (n : ℕ) (l : List VolumeSegment) where
   unfolding countedVolumes volumesOk
   rates-volumes c e v =
       let k : covers volumeSpan w n l ≡ true = sym rates-span ∙ c in
-      counted-is 16 n _ (covers-some volumeSpan w n l k) (covers-most volumeSpan w n l k) ∙ both-yes _ _ (covers-spans volumeSpan w n l k) (both-yes _ _ e (rw take-map at v))
+      counted-is segmentsMax n _ (covers-some volumeSpan w n l k) (covers-most volumeSpan w n l k) ∙ both-yes _ _ (covers-spans volumeSpan w n l k) (both-yes _ _ e (rw take-map at v))
 
   module _ (e : countedVolumes w n l ≡ true) where
     pub volumes-hold : volumesOk w (take n l) ≡ true
     unfolding countedVolumes
-    volumes-hold = counted-holds 16 n _ e
+    volumes-hold = counted-holds segmentsMax n _ e
 
     pub volumes-some : 1 ≤ n
     unfolding countedVolumes
-    volumes-some = counted-some 16 n _ e
+    volumes-some = counted-some segmentsMax n _ e
 
-    pub volumes-most : n ≤ 16
+    pub volumes-most : n ≤ segmentsMax
     unfolding countedVolumes
-    volumes-most = counted-most 16 n _ e
+    volumes-most = counted-most segmentsMax n _ e
 
     pub volumes-cover : covers rateSpan w n (map rateSegment l) ≡ true
     unfolding volumesOk covers
-    volumes-cover = rates-span ∙ counted-is 16 n _ volumes-some volumes-most ∙ both-fst _ _ volumes-hold
+    volumes-cover = rates-span ∙ counted-is segmentsMax n _ volumes-some volumes-most ∙ both-fst _ _ volumes-hold
 
     pub volumes-whole : allOf wholeOf (take n l) ≡ true
     unfolding volumesOk

@@ -8,7 +8,7 @@ use lib.ListN.{take}
 use Rattle.units.specs.declared.Volume.{Volume}
 use Rattle.units.specs.declared.Interval.{Interval}
 use Rattle.units.specs.Logic.{pick}
-use Rattle.units.specs.Limits.{windowOk}
+use Rattle.units.specs.Limits.{segmentsMax, windowOk}
 use Rattle.units.specs.Arrays.{padded}
 use Rattle.units.proofs.Logic.{unless-go, unless-stop, unless-keeps}
 use Rattle.segmentation.specs.declared.RateSegment.{RateSegment}
@@ -72,8 +72,8 @@ module _ (w : Interval) (rates : List RateSegment) (m : ℕ) (delays : List Dela
 
   -- the answer that is put together of these parts
   pub done-of : Passed w rates m delays k → (t : Volume) → record { 0 = totalOf (take m rates) } ≡ t
-      → (vs : List VolumeSegment) → vs ≡ padded 16 zeroVolume (map volumeOf (take m rates))
-      → (ds : List DelaySegment) → ds ≡ padded 16 zeroDelay (take k delays)
+      → (vs : List VolumeSegment) → vs ≡ padded segmentsMax zeroVolume (map volumeOf (take m rates))
+      → (ds : List DelaySegment) → ds ≡ padded segmentsMax zeroDelay (take k delays)
       → _≡_ {A = Opened} (record { number = 0; total = t; contact = record { window = w; rates = vs; «rate_count» = m; delays = ds; «delay_count» = k } }) (openContact w rates m delays k)
   done-of p t e vs f ds g = rw (← e, f, g) (sym (done p))
 

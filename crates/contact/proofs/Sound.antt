@@ -1,5 +1,5 @@
 -- What a contact that passes its test is, in the terms of the rounding and lookup rules.
-use Prim.Native.Nat.{ℕ, _+_, _-_, _<_, _≤_, _^_}
+use Prim.Native.Nat.{ℕ, _+_, _-_, _<_, _≤_}
 use mathlib.Core.Bool.{true}
 use mathlib.Core.Path.{_≡_, sym, _∙_}
 use mathlib.Core.List.{List, [], _∷_}
@@ -7,7 +7,7 @@ use native.Mathlib.Omega.{arith}
 use lib.ListN.{take}
 use borrow.Author.Tests.{eqb-true}
 use Rattle.units.specs.Logic.{allOf}
-use Rattle.units.specs.Limits.{volumeMax}
+use Rattle.units.specs.Limits.{dateMax, lengthMax, segmentsMax, volumeMax}
 use Rattle.units.proofs.Logic.{both-fst, both-snd}
 use Rattle.units.proofs.Windows.{Window, window}
 use Rattle.segmentation.specs.declared.VolumeSegment.{VolumeSegment}
@@ -24,10 +24,10 @@ use Rattle.contact.proofs.Records.{contact-is, volumes-some, volumes-mo
 
 pub record Sound (c : Contact) : Type 0 where
   pub some : c .window .start .0 < c .window .end .0
-  pub date : c .window .end .0 ≤ 2 ^ 40
-  pub short : c .window .end .0 ≤ c .window .start .0 + 2 ^ 24
-  pub rates : (1 ≤ c .«rate_count») × (c .«rate_count» ≤ 16)
-  pub delays : (1 ≤ c .«delay_count») × (c .«delay_count» ≤ 16)
+  pub date : c .window .end .0 ≤ dateMax
+  pub short : c .window .end .0 ≤ c .window .start .0 + lengthMax
+  pub rates : (1 ≤ c .«rate_count») × (c .«rate_count» ≤ segmentsMax)
+  pub delays : (1 ≤ c .«delay_count») × (c .«delay_count» ≤ segmentsMax)
   pub run : Run (c .window .start .0) (take (c .«rate_count») (c .rates))
   pub close : closeOf (c .window .start .0) (take (c .«rate_count») (c .rates)) ≡ c .window .end .0
   pub total : totalIn c ≤ volumeMax
@@ -41,7 +41,7 @@ spans-close b [] a e = eqb-true a b (sym (spans-end volumeSpan b a) ∙ e)
 spans-close b (s ∷ l) a e = spans-close b l (s .end .0) (spans-rest volumeSpan b s l a e)
 
 -- volume segments that are kept in a window run on
-pub kept-run : (lo b : ℕ) → b ≤ lo + 2 ^ 24 → b ≤ 2 ^ 40 → (l : List VolumeSegment) (a room : ℕ) → lo ≤ a → room ≤ 2 ^ 38 → Kept b a room l → Run a l
+pub kept-run : (lo b : ℕ) → b ≤ lo + lengthMax → b ≤ dateMax → (l : List VolumeSegment) (a room : ℕ) → lo ≤ a → room ≤ volumeMax → Kept b a room l → Run a l
 unfolding Run
 kept-run lo b short date [] a room h m k = tt
 kept-run lo b short date (s ∷ l) a room h m k =
@@ -59,14 +59,14 @@ sound c e =
     let w : Window (c .window) = window _ (both-fst _ _ e0) in
     let v : countedVolumes (c .window) (c .«rate_count») (c .rates) ≡ true = both-fst _ _ e1 in
     let d : delaysOk (c .window) (c .«delay_count») (c .delays) ≡ true = both-fst _ _ (both-snd _ _ e1) in
-    let k : Kept (c .window .end .0) (c .window .start .0) (2 ^ 38) (take (c .«rate_count») (c .rates)) = volumes-kept _ _ (volumes-hold _ _ _ v) in
+    let k : Kept (c .window .end .0) (c .window .start .0) volumeMax (take (c .«rate_count») (c .rates)) = volumes-kept _ _ (volumes-hold _ _ _ v) in
     record {
       some = w .some;
       date = w .date;
       short = w .short;
       rates = (volumes-some _ _ _ v, volumes-most _ _ _ v);
       delays = (delays-some _ _ _ d, delays-most _ _ _ d);
-      run = kept-run (c .window .start .0) (c .window .end .0) (w .short) (w .date) _ _ (2 ^ 38) (omega arith) (omega arith) k;
+      run = kept-run (c .window .start .0) (c .window .end .0) (w .short) (w .date) _ _ volumeMax (omega arith) (omega arith) k;
       close = spans-close _ _ _ (k .spanned);
       total = k .total;
       covered = delays-span _ _ _ d;

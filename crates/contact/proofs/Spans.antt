@@ -7,6 +7,7 @@ use native.Mathlib.Omega.{arith}
 use lib.Dec.{eqb}
 use lib.ListN.{take}
 use borrow.Author.Tests.{eqb-true, ltb-true, eq-eqb, ne-eqb, lt-ltb, le-ltb}
+use Rattle.units.specs.Limits.{segmentsMax}
 use Rattle.units.specs.declared.Interval.{Interval}
 use Rattle.units.specs.Logic.{both, allOf}
 use Rattle.units.proofs.Logic.{both-go, both-stop, both-fst, both-snd, both-not, both-only, all-go, all-stop, all-none}
@@ -69,15 +70,15 @@ module _ {A : Type 0} (span : A → Interval) (b : ℕ) where
 module _ {A : Type 0} (span : A → Interval) (w : Interval) (n : ℕ) (l : List A) (e : covers span w n l ≡ true) where
   pub covers-some : 1 ≤ n
   unfolding covers
-  covers-some = counted-some 16 n _ e
+  covers-some = counted-some segmentsMax n _ e
 
-  pub covers-most : n ≤ 16
+  pub covers-most : n ≤ segmentsMax
   unfolding covers
-  covers-most = counted-most 16 n _ e
+  covers-most = counted-most segmentsMax n _ e
 
   pub covers-spans : spans span (w .start .0) (w .end .0) (take n l) ≡ true
   unfolding covers
-  covers-spans = counted-holds 16 n _ e
+  covers-spans = counted-holds segmentsMax n _ e
 
 -- segments with the same spans
 pub spans-map : {A B : Type 0} (f : A → B) (span : B → Interval) (a b : ℕ) (l : List A)

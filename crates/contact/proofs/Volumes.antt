@@ -1,5 +1,5 @@
 -- The test of the volume segments in one pass, with the date reached and the volume left, is the one that is asked.
-use Prim.Native.Nat.{ℕ, _-_, _*_, _%_, _<_, _≤_, _^_}
+use Prim.Native.Nat.{ℕ, _-_, _*_, _%_, _<_, _≤_}
 use mathlib.Core.Bool.{Bool, true, false}
 use mathlib.Core.Path.{_≡_, refl, sym, _∙_}
 use mathlib.Core.List.{List, [], _∷_, map}
@@ -7,6 +7,7 @@ use native.Mathlib.Nat.{div-add-mod', div-le-self}
 use native.Mathlib.Omega.{arith}
 use lib.Dec.{eqb}
 use borrow.Author.Tests.{eqb-true, ltb-true, leb-true, eq-eqb, lt-ltb, le-leb}
+use Rattle.units.specs.Limits.{volumeMax, rateMax}
 use Rattle.units.specs.declared.Interval.{Interval}
 use Rattle.units.specs.Logic.{both, allOf}
 use Rattle.units.proofs.Logic.{both-go, both-stop, both-fst, both-snd, both-yes, same-test, all-go, all-head, all-tail, all-none}
@@ -71,10 +72,10 @@ module _ (b : ℕ) (at : ℕ × ℕ) where
     taken-go e = both-go _ _ e
 
 -- one segment more is kept where it is taken
-kept-more : (b a room : ℕ) (s : VolumeSegment) (l : List VolumeSegment) → room ≤ 2 ^ 38 → Takes s a room → Kept b (s .end .0) (room - s .volume .0) l → Kept b a room (s ∷ l)
+kept-more : (b a room : ℕ) (s : VolumeSegment) (l : List VolumeSegment) → room ≤ volumeMax → Takes s a room → Kept b (s .end .0) (room - s .volume .0) l → Kept b a room (s ∷ l)
 unfolding totalOf
 kept-more b a room s l h t k =
-    let small : rateOf s ≤ 2 ^ 38 = omega (arith, div-le-self (s .volume .0) (s .end .0 - s .start .0), t .within) in
+    let small : rateOf s ≤ rateMax = omega (arith, div-le-self (s .volume .0) (s .end .0 - s .start .0), t .within) in
     record {
       spanned = spans-go volumeSpan b s l a (t .start) (t .some) ∙ k .spanned;
       whole = all-go wholeOf s l (eq-eqb _ _ (t .whole)) ∙ k .whole;
@@ -105,7 +106,7 @@ kept-rest b a room s l k =
       total = omega (arith, k .total, t .whole);
     }
 
-pub taken-kept : (b : ℕ) (at : ℕ × ℕ) (l : List VolumeSegment) → at .1 ≤ 2 ^ 38 → taken b at l ≡ true → Kept b (at .0) (at .1) l
+pub taken-kept : (b : ℕ) (at : ℕ × ℕ) (l : List VolumeSegment) → at .1 ≤ volumeMax → taken b at l ≡ true → Kept b (at .0) (at .1) l
 unfolding taken totalOf
 taken-kept b at [] h e = record { spanned = spans-end volumeSpan b (at .0) ∙ e; whole = all-none wholeOf; rates = all-none rateOk; total = omega arith }
 taken-kept b at (s ∷ l) h e =
@@ -119,17 +120,17 @@ kept-taken b at (s ∷ l) k =
     both-yes _ _ (takes-back s (at .0) (at .1) (kept-first b (at .0) (at .1) s l k)) (kept-taken b (s .end .0, at .1 - s .volume .0) l (kept-rest b (at .0) (at .1) s l k))
 
 module _ (w : Interval) (l : List VolumeSegment) where
-  pub volumes-kept : volumesOk w l ≡ true → Kept (w .end .0) (w .start .0) (2 ^ 38) l
+  pub volumes-kept : volumesOk w l ≡ true → Kept (w .end .0) (w .start .0) volumeMax l
   unfolding volumesOk volumeOk
   volumes-kept e =
       let e1 = both-snd _ _ e in
       let e2 = both-snd _ _ e1 in
       record { spanned = both-fst _ _ e; whole = both-fst _ _ e1; rates = both-fst _ _ e2; total = leb-true _ _ (both-snd _ _ e2) }
 
-  pub kept-volumes : Kept (w .end .0) (w .start .0) (2 ^ 38) l → volumesOk w l ≡ true
+  pub kept-volumes : Kept (w .end .0) (w .start .0) volumeMax l → volumesOk w l ≡ true
   unfolding volumesOk volumeOk
   kept-volumes k = both-yes _ _ (k .spanned) (both-yes _ _ (k .whole) (both-yes _ _ (k .rates) (le-leb _ _ (k .total))))
 
-  pub taken-is : volumesOk w l ≡ taken (w .end .0) (w .start .0, 2 ^ 38) l
+  pub taken-is : volumesOk w l ≡ taken (w .end .0) (w .start .0, volumeMax) l
   taken-is =
-      same-test _ _ (λ e. kept-taken _ (w .start .0, 2 ^ 38) l (volumes-kept e)) (λ e. kept-volumes (taken-kept _ (w .start .0, 2 ^ 38) l (omega arith) e))
+      same-test _ _ (λ e. kept-taken _ (w .start .0, volumeMax) l (volumes-kept e)) (λ e. kept-volumes (taken-kept _ (w .start .0, volumeMax) l (omega arith) e))

@@ -1,10 +1,11 @@
 -- What inner functions take for granted or compute on the way. No promise of a public call rests on it.
-use Prim.Native.Nat.{ℕ, _+_, _-_, _%_, _<_, _≤_, _^_}
+use Prim.Native.Nat.{ℕ, _+_, _-_, _%_, _<_, _≤_}
 use mathlib.Core.Bool.{Bool}
 use mathlib.Core.List.{List, [], _∷_}
 use lib.Dec.{leb, ltb, eqb}
 use lib.ListN.{take}
 use mathlib.Core.List.{map}
+use Rattle.units.specs.Limits.{lengthMax, rateMax, segmentsMax}
 use Rattle.units.specs.declared.Interval.{Interval}
 use Rattle.units.specs.Logic.{both, pick, allOf}
 use Rattle.segmentation.specs.declared.RateSegment.{RateSegment}
@@ -17,12 +18,12 @@ use Rattle.contact.specs.declared.opening.Total.the-variants.{Of, Over}
 -- the length is not negative and within its limit
 pub record Spanning (s : RateSegment) : Type 0 where
   pub forth : s .start .0 < s .end .0
-  pub short : s .end .0 ≤ s .start .0 + 2 ^ 24
+  pub short : s .end .0 ≤ s .start .0 + lengthMax
 
 -- the rate times the length fits
 pub record Fitting (s : RateSegment) : Type 0 where
   pub spanning : Spanning s
-  pub small : s .rate .0 ≤ 2 ^ 38
+  pub small : s .rate .0 ≤ rateMax
 
 unfoldable pub Forward : List RateSegment → Type 0
 Forward [] = Unit
@@ -46,7 +47,7 @@ volumesOk w l =
     both (spans volumeSpan (w .start .0) (w .end .0) l) (both (allOf wholeOf l) (volumeOk (map rateSegment l)))
 
 unfoldable pub countedVolumes : Interval → ℕ → List VolumeSegment → Bool
-countedVolumes w n l = both (leb 1 n) (both (leb n 16) (volumesOk w (take n l)))
+countedVolumes w n l = both (leb 1 n) (both (leb n segmentsMax) (volumesOk w (take n l)))
 
 -- the total, where the rates are inside their limits (`total_of`)
 abbrev pub totalWithin : List RateSegment → Total

@@ -7,7 +7,7 @@ use lib.ListN.{take, replicate}
 use mathlib.Core.List.{map}
 use Rattle.units.specs.declared.Interval.{Interval}
 use Rattle.units.specs.Logic.{both, unless, allOf}
-use Rattle.units.specs.Limits.{rateMax, volumeMax, windowOk}
+use Rattle.units.specs.Limits.{segmentsMax, rateMax, volumeMax, windowOk}
 use Rattle.units.specs.Answer.{interval}
 use Rattle.units.specs.Arrays.{padded}
 use Rattle.segmentation.specs.declared.RateSegment.{RateSegment}
@@ -33,9 +33,9 @@ abbrev pub contactOf : Interval → List RateSegment → ℕ → List DelaySegme
 contactOf w rates m delays k =
     record {
       window = w;
-      rates = padded 16 zeroVolume (map volumeOf (take m rates));
+      rates = padded segmentsMax zeroVolume (map volumeOf (take m rates));
       «rate_count» = m;
-      delays = padded 16 zeroDelay (take k delays);
+      delays = padded segmentsMax zeroDelay (take k delays);
       «delay_count» = k;
     }
 
@@ -45,7 +45,7 @@ refusedContact n =
     record {
       number = n;
       total = record { 0 = 0 };
-      contact = record { window = interval 0 0; rates = replicate 16 zeroVolume; «rate_count» = 0; delays = replicate 16 zeroDelay; «delay_count» = 0 };
+      contact = record { window = interval 0 0; rates = replicate segmentsMax zeroVolume; «rate_count» = 0; delays = replicate segmentsMax zeroDelay; «delay_count» = 0 };
     }
 
 -- the opening of a contact

@@ -6,7 +6,7 @@ use lib.Dec.{leb, ltb, eqb}
 use lib.ListN.{take}
 use Rattle.units.specs.declared.Interval.{Interval}
 use Rattle.units.specs.Logic.{both, allOf}
-use Rattle.units.specs.Limits.{delayMax}
+use Rattle.units.specs.Limits.{segmentsMax, delayMax}
 use Rattle.segmentation.specs.declared.RateSegment.{RateSegment}
 use Rattle.segmentation.specs.declared.VolumeSegment.{VolumeSegment}
 use Rattle.segmentation.specs.declared.DelaySegment.{DelaySegment}
@@ -29,7 +29,7 @@ spans span a b (s ∷ l) =
 
 -- refusal 4: the count is 1 to 16, and the first so many segments are exactly the window
 unfoldable pub covers : {A : Type 0} → (A → Interval) → Interval → ℕ → List A → Bool
-covers span w n l = both (leb 1 n) (both (leb n 16) (spans span (w .start .0) (w .end .0) (take n l)))
+covers span w n l = both (leb 1 n) (both (leb n segmentsMax) (spans span (w .start .0) (w .end .0) (take n l)))
 
 abbrev pub delayOk : DelaySegment → Bool
 delayOk s = leb (s .delay .0) delayMax

@@ -10,7 +10,8 @@ use units::Offer;
 use units::Volume;
 ghost use mathlib.Core.Path.{_≡_};
 ghost use mathlib.Core.Bool.{true};
-ghost use Prim.Native.Nat.{_≤_, _^_};
+ghost use Prim.Native.Nat.{_≤_};
+ghost use Rattle.units.specs.Limits.{dateMax};
 ghost use Rattle.segmentation.specs.Delay.{answerWith};
 ghost use Rattle.contact.specs.Open.{openContact, refusedContact};
 ghost use Rattle.contact.specs.Record.{contactOk, delayList};
@@ -132,7 +133,7 @@ impl Contact {
 
     // The answer to a dry run that found this send interval: its dates with the delays, or 8.
     pub fn answer(self, send: Interval) -> Offer
-        requires { ⌜ contactOk self ≡ true ⌝ ∗ ⌜ (send .start .0 ≤ 2 ^ 40) × (send .end .0 ≤ 2 ^ 40) ⌝ }
+        requires { ⌜ contactOk self ≡ true ⌝ ∗ ⌜ (send .start .0 ≤ dateMax) × (send .end .0 ≤ dateMax) ⌝ }
         ensures { λ r. ⌜ r ≡ answerWith (delayList self) send ⌝ }
     {
         let delays = self.delays;

@@ -11,6 +11,7 @@ ghost use mathlib.Core.Path.{_≡_};
 ghost use Prim.Native.Nat.{_≤_};
 ghost use lib.ListN.{take};
 ghost use mathlib.Core.List.{map};
+ghost use Rattle.units.specs.Limits.{segmentsMax};
 ghost use Rattle.units.specs.Arrays.{padded};
 ghost use Rattle.contact.specs.Segments.{rateSpan, spans, covers, volumeOf, zeroVolume, zeroDelay};
 ghost use Rattle.contact.specs.Granted.{Fitting, AllFitting, Forward, totalWithin};
@@ -27,7 +28,7 @@ pub fn rates_cover(
     count: usize,
     window: Interval,
 ) -> bool
-    requires { ⌜ count ≤ 16 ⌝ }
+    requires { ⌜ count ≤ segmentsMax ⌝ }
     ensures { λ r. ⌜ r ≡ spans rateSpan (window .start .0) (window .end .0) (take count rates) ⌝ }
 {
     let end = window.end;
@@ -82,7 +83,7 @@ pub fn volume_of(s: RateSegment) -> VolumeSegment
 
 // The total volume of the rate segments, if it and each rate are inside their limits.
 pub fn total_of(rates: [RateSegment; RateSegment::COUNT_MAX], count: usize) -> Total
-    requires { ⌜ count ≤ 16 ⌝ ∗ ⌜ Forward (take count rates) ⌝ }
+    requires { ⌜ count ≤ segmentsMax ⌝ ∗ ⌜ Forward (take count rates) ⌝ }
     ensures { λ r. ⌜ r ≡ totalWithin (take count rates) ⌝ }
 {
     let mut i: usize = 0;
@@ -109,8 +110,8 @@ pub fn volumes_of(
     rates: [RateSegment; RateSegment::COUNT_MAX],
     count: usize,
 ) -> [VolumeSegment; RateSegment::COUNT_MAX]
-    requires { ⌜ count ≤ 16 ⌝ ∗ ⌜ AllFitting (take count rates) ⌝ }
-    ensures { λ r. ⌜ r ≡ padded 16 zeroVolume (map volumeOf (take count rates)) ⌝ }
+    requires { ⌜ count ≤ segmentsMax ⌝ ∗ ⌜ AllFitting (take count rates) ⌝ }
+    ensures { λ r. ⌜ r ≡ padded segmentsMax zeroVolume (map volumeOf (take count rates)) ⌝ }
 {
     let zero = VolumeSegment {
         start: Date(0),
@@ -133,8 +134,8 @@ pub fn delays_of(
     delays: [DelaySegment; DelaySegment::COUNT_MAX],
     count: usize,
 ) -> [DelaySegment; DelaySegment::COUNT_MAX]
-    requires { ⌜ count ≤ 16 ⌝ }
-    ensures { λ r. ⌜ r ≡ padded 16 zeroDelay (take count delays) ⌝ }
+    requires { ⌜ count ≤ segmentsMax ⌝ }
+    ensures { λ r. ⌜ r ≡ padded segmentsMax zeroDelay (take count delays) ⌝ }
 {
     let zero = DelaySegment {
         start: Date(0),

@@ -9,6 +9,7 @@ use units::Volume;
 ghost use mathlib.Core.Path.{_≡_};
 ghost use Prim.Native.Nat.{_≤_};
 ghost use lib.ListN.{take, drop};
+ghost use Rattle.units.specs.Limits.{segmentsMax};
 ghost use Rattle.units.specs.Logic.{both, allOf};
 ghost use Rattle.contact.specs.Segments.{delaySpan, spans, delayOk, delaysOk, noVolume, noDelay};
 ghost use Rattle.contact.specs.Granted.{takesOf, volumesOk, countedVolumes};
@@ -19,7 +20,7 @@ pub fn delays_cover(
     count: usize,
     window: Interval,
 ) -> bool
-    requires { ⌜ count ≤ 16 ⌝ }
+    requires { ⌜ count ≤ segmentsMax ⌝ }
     ensures { λ r. ⌜ r ≡ both (spans delaySpan (window .start .0) (window .end .0) (take count delays)) (allOf delayOk (take count delays)) ⌝ }
 {
     let end = window.end;
@@ -86,7 +87,7 @@ pub fn volumes_ok(
     count: usize,
     window: Interval,
 ) -> bool
-    requires { ⌜ count ≤ 16 ⌝ }
+    requires { ⌜ count ≤ segmentsMax ⌝ }
     ensures { λ r. ⌜ r ≡ volumesOk window (take count rates) ⌝ }
 {
     let end = window.end;
@@ -151,7 +152,7 @@ pub fn no_delay(s: DelaySegment) -> bool
 
 // Is nothing in the places from the count on?
 pub fn rates_unused(rates: [VolumeSegment; RateSegment::COUNT_MAX], count: usize) -> bool
-    requires { ⌜ count ≤ 16 ⌝ }
+    requires { ⌜ count ≤ segmentsMax ⌝ }
     ensures { λ r. ⌜ r ≡ allOf noVolume (drop count rates) ⌝ }
 {
     let mut i = count;
@@ -168,7 +169,7 @@ pub fn rates_unused(rates: [VolumeSegment; RateSegment::COUNT_MAX], count: usize
 }
 
 pub fn delays_unused(delays: [DelaySegment; DelaySegment::COUNT_MAX], count: usize) -> bool
-    requires { ⌜ count ≤ 16 ⌝ }
+    requires { ⌜ count ≤ segmentsMax ⌝ }
     ensures { λ r. ⌜ r ≡ allOf noDelay (drop count delays) ⌝ }
 {
     let mut i = count;

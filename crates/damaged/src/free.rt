@@ -1,5 +1,6 @@
 // The free-volume manager: contact [0,10), rate 10, delay 3.
 use crate::out;
+use crate::over;
 use contact::Contact;
 use free_list::FreeList;
 use seg::FreeVolume;
@@ -207,7 +208,7 @@ fn free_lists(r: FreeVolume) {
     report(100, listing(r, segment(0, 10, 15), zero, 1));
     // no segment, too many, a count beyond the places, a second one that is unused
     report(65, listing(r, whole, zero, 0));
-    report(66, listing(r, whole, zero, 65));
+    report(66, listing(r, whole, zero, over::LISTED));
     report(67, listing(r, whole, zero, 18_446_744_073_709_551_615));
     report(68, listing(r, whole, zero, 2));
     // touching, out of order, backward, past the window, above the capacity
@@ -236,24 +237,24 @@ fn contacts(r: FreeVolume) {
     // windows: empty, backward, too long, past the last date
     report(78, windowed(r, 10, 10));
     report(79, windowed(r, 10, 0));
-    report(80, windowed(r, 0, 16_777_217));
-    report(81, windowed(r, 1_099_511_627_770, 1_099_511_627_777));
-    // rates: counts, a gap, short, not a multiple of the length, a total above 2^38, an unused place
+    report(80, windowed(r, 0, over::LENGTH));
+    report(81, windowed(r, over::LATE, over::DATE));
+    // rates: counts, a gap, short, not a multiple of the length, a total above its limit, an unused place
     report(82, rated(r, rate, zero, 0));
-    report(83, rated(r, rate, zero, 17));
+    report(83, rated(r, rate, zero, over::SEGMENTS));
     report(84, rated(r, segment(0, 5, 50), segment(6, 10, 40), 2));
     report(85, rated(r, segment(0, 9, 90), zero, 1));
     report(86, rated(r, segment(0, 10, 101), zero, 1));
-    report(87, rated(r, segment(0, 10, 274_877_906_950), zero, 1));
+    report(87, rated(r, segment(0, 10, over::VOLUME_OF_TEN), zero, 1));
     report(88, rated(r, rate, segment(0, 0, 1), 1));
     // valid: two rate segments of the same rate
     report(101, rated(r, segment(0, 5, 50), segment(5, 10, 50), 2));
-    // delays: counts, a gap, an empty one, above 2^40, an unused place
+    // delays: counts, a gap, an empty one, above its limit, an unused place
     report(89, delayed(r, three, nil, 0));
-    report(90, delayed(r, three, nil, 17));
+    report(90, delayed(r, three, nil, over::SEGMENTS));
     report(48, delayed(r, delay(0, 5, 3), delay(6, 10, 3), 2));
     report(49, delayed(r, delay(0, 0, 3), delay(0, 10, 3), 2));
-    report(50, delayed(r, delay(0, 10, 1_099_511_627_777), nil, 1));
+    report(50, delayed(r, delay(0, 10, over::DELAY), nil, 1));
     report(51, delayed(r, three, delay(0, 0, 1), 1));
     // valid: two delay segments
     report(102, delayed(r, delay(0, 5, 3), delay(5, 10, 3), 2));

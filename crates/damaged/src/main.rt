@@ -1,6 +1,7 @@
 // Records built to break a rule, and valid ones at the border of one: what every call of each manager answers.
 pub mod free;
 pub mod out;
+pub mod over;
 pub mod polynomial;
 pub mod priority;
 pub mod queue;

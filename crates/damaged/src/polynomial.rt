@@ -1,5 +1,6 @@
 // The polynomial manager: window [0,10), coefficients 10,0,0,0, offset 0, delay 3.
 use crate::out;
+use crate::over;
 use contact::Contact;
 use free_list::FreeList;
 use poly::Polynome;
@@ -140,17 +141,14 @@ fn valid(r: PolySeg) {
     report(98, listing(r, segment(0, 2, 0), segment(3, 10, 0), 2));
     report(99, listing(r, segment(1, 1, 0), segment(3, 9, 0), 2));
     report(100, listing(r, segment(10, 10, 0), zero, 1));
-    report(101, polynome(r, 10, 1_099_511_627_776));
-    report(102, polynome(r, 230_584_300_921_369_395, 0));
+    report(101, polynome(r, 10, Date::MAX));
+    report(102, polynome(r, over::FIRST_WITHIN_TEN, 0));
     report(103, polynome(r, -10, 0));
     // no delay, a delay that covers nothing, one backward, dates and delay at their limits
     report(104, delays(r, none, none, 0));
     report(105, delays(r, delay(20, 30, 1), none, 1));
     report(106, delays(r, delay(9, 2, 3), delay(0, 10, 3), 2));
-    report(
-        107,
-        delays(r, delay(0, 1_099_511_627_776, 1_099_511_627_776), none, 1),
-    );
+    report(107, delays(r, delay(0, Date::MAX, Delay::MAX), none, 1));
 }
 
 fn broken_rules(r: PolySeg) {
@@ -159,27 +157,27 @@ fn broken_rules(r: PolySeg) {
     // an empty window, a backward one, one date or one length too high
     report(65, window(r, 10, 10));
     report(66, window(r, 11, 10));
-    report(67, window(r, 1_099_511_627_770, 1_099_511_627_777));
-    report(68, window(r, 0, 16_777_217));
+    report(67, window(r, over::LATE, over::DATE));
+    report(68, window(r, 0, over::LENGTH));
     // a capacity, an offset or a coefficient one too high; the last product too high; a number that wraps
-    report(69, polynome(r, 230_584_300_921_369_396, 0));
-    report(70, polynome(r, 10, 1_099_511_627_777));
+    report(69, polynome(r, over::FIRST_OF_TEN, 0));
+    report(70, polynome(r, 10, over::DATE));
     report(71, polynome(r, 9_223_372_036_854_775_807, 0));
     report(72, polynome(r, -9_223_372_036_854_775_807, 0));
-    report(73, cubic(r, 922_337_203_685_480));
-    // delays: a count of 17, a count beyond the places, a start, an end or a delay one too high, something unused
-    report(74, delays(r, delay(0, 10, 3), none, 17));
+    report(73, cubic(r, over::LAST_OF_TEN));
+    // delays: one count too high, a count beyond the places, a start, an end or a delay one too high, something unused
+    report(74, delays(r, delay(0, 10, 3), none, over::SEGMENTS));
     report(
         75,
         delays(r, delay(0, 10, 3), none, 18_446_744_073_709_551_615),
     );
-    report(76, delays(r, delay(1_099_511_627_777, 10, 3), none, 1));
-    report(77, delays(r, delay(0, 1_099_511_627_777, 3), none, 1));
-    report(78, delays(r, delay(0, 10, 1_099_511_627_777), none, 1));
+    report(76, delays(r, delay(over::DATE, 10, 3), none, 1));
+    report(77, delays(r, delay(0, over::DATE, 3), none, 1));
+    report(78, delays(r, delay(0, 10, over::DELAY), none, 1));
     report(79, delays(r, delay(0, 10, 3), delay(0, 0, 1), 1));
     // the list: no segment, too many, a second one that is unused, touching, backward, outside, a volume, something unused
     report(80, listing(r, segment(0, 10, 0), zero, 0));
-    report(81, listing(r, segment(0, 10, 0), zero, 65));
+    report(81, listing(r, segment(0, 10, 0), zero, over::LISTED));
     report(82, listing(r, segment(0, 10, 0), zero, 2));
     report(83, listing(r, segment(0, 2, 0), segment(2, 10, 0), 2));
     report(84, listing(r, segment(5, 4, 0), zero, 1));

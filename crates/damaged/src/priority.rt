@@ -1,5 +1,6 @@
 // The priority manager: contact [0,10), rate 10, delay 3. Its contact part is tested as the free-volume manager's.
 use crate::out;
+use crate::over;
 use bookings::BookingSegment;
 use bookings::Bookings;
 use bookings::Level;
@@ -102,21 +103,21 @@ pub fn run() {
     report(97, r);
     report(98, listing(r, segment(0, 5, 0), segment(5, 10, 3), 2));
     report(99, listing(r, segment(0, 0, 6), segment(0, 10, 0), 2));
-    report(100, listing(r, segment(0, 10, 128), zero, 1));
+    report(100, listing(r, segment(0, 10, Level::MAX), zero, 1));
     report(101, listing(r, segment(0, 10, 6), zero, 1));
     report(102, listing(r, segment(0, 10, 5), zero, 1));
     // no segment, too many, a count beyond the places, a second one that is unused
     report(65, listing(r, whole, zero, 0));
-    report(66, listing(r, whole, zero, 65));
+    report(66, listing(r, whole, zero, over::LISTED));
     report(67, listing(r, whole, zero, 18_446_744_073_709_551_615));
     report(68, listing(r, whole, zero, 2));
-    // a gap, an overlap, backward, short of the window, past it, a level above 128
+    // a gap, an overlap, backward, short of the window, past it, a level above the highest
     report(69, listing(r, segment(0, 5, 0), segment(6, 10, 0), 2));
     report(70, listing(r, segment(0, 5, 0), segment(4, 10, 0), 2));
     report(71, listing(r, segment(0, 12, 0), segment(12, 10, 0), 2));
     report(72, listing(r, segment(0, 9, 0), zero, 1));
     report(73, listing(r, segment(0, 11, 0), zero, 1));
-    report(74, listing(r, segment(0, 10, 129), zero, 1));
+    report(74, listing(r, segment(0, 10, over::LEVEL), zero, 1));
     // something in an unused place: a start, an end, a level
     report(75, listing(r, whole, segment(1, 0, 0), 1));
     report(76, listing(r, whole, segment(0, 1, 0), 1));

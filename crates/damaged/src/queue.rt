@@ -1,5 +1,6 @@
 // The queue manager: [0,10), rate 10, delay 2, 3 classes, unbudgeted, both flags.
 use crate::out;
+use crate::over;
 use legacy::Flags;
 use legacy::Queue;
 use units::Bundle;
@@ -79,24 +80,24 @@ pub fn run() {
     let f = flags(true, false);
     let by_hand = flags(false, false);
     let budgeted = flags(true, true);
-    // valid: fresh; queued by hand; a queue of 2^41; a budget of 2^38; eight classes
+    // valid: fresh; queued by hand; a queue, a budget and the classes at their limits
     report(97, queue(10, 10, 2, 3, f, 0, 0, 0));
     report(98, queue(10, 10, 2, 3, by_hand, 25, 0, 0));
-    report(99, queue(10, 10, 2, 3, by_hand, 2_199_023_255_552, 0, 0));
-    report(100, queue(10, 10, 2, 3, budgeted, 0, 0, 274_877_906_944));
-    report(101, queue(10, 10, 2, 8, f, 0, 1, 0));
+    report(99, queue(10, 10, 2, 3, by_hand, Queue::QUEUE_MAX, 0, 0));
+    report(100, queue(10, 10, 2, 3, budgeted, 0, 0, Queue::BUDGET_MAX));
+    report(101, queue(10, 10, 2, Queue::CLASSES_MAX, f, 0, 1, 0));
     // the window, the rate, the total, the delay
     report(65, queue(0, 10, 2, 3, f, 0, 0, 0));
-    report(66, queue(16_777_217, 10, 2, 3, f, 0, 0, 0));
+    report(66, queue(over::LENGTH, 10, 2, 3, f, 0, 0, 0));
     report(67, queue(10, 0, 2, 3, f, 0, 0, 0));
-    report(68, queue(10, 274_877_906_945, 2, 3, f, 0, 0, 0));
-    report(69, queue(10, 27_487_790_695, 2, 3, f, 0, 0, 0));
-    report(70, queue(10, 10, 1_099_511_627_777, 3, f, 0, 0, 0));
-    // class counts, a queue above 2^41, a queue past the classes, budgets
+    report(68, queue(10, over::RATE, 2, 3, f, 0, 0, 0));
+    report(69, queue(10, over::RATE_OF_TEN, 2, 3, f, 0, 0, 0));
+    report(70, queue(10, 10, over::DELAY, 3, f, 0, 0, 0));
+    // class counts, a queue above its limit, a queue past the classes, budgets
     report(71, queue(10, 10, 2, 0, f, 0, 0, 0));
-    report(72, queue(10, 10, 2, 9, f, 0, 0, 0));
-    report(73, queue(10, 10, 2, 3, f, 2_199_023_255_553, 0, 0));
+    report(72, queue(10, 10, 2, over::CLASSES, f, 0, 0, 0));
+    report(73, queue(10, 10, 2, 3, f, over::QUEUE, 0, 0));
     report(74, queue(10, 10, 2, 3, f, 0, 1, 0));
     report(75, queue(10, 10, 2, 3, f, 0, 0, 1));
-    report(76, queue(10, 10, 2, 3, budgeted, 0, 0, 274_877_906_945));
+    report(76, queue(10, 10, 2, 3, budgeted, 0, 0, over::BUDGET));
 }

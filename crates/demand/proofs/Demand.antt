@@ -5,6 +5,7 @@ use mathlib.Core.Path.{_≡_, sym, ap, _∙_}
 use mathlib.Core.List.{List, []}
 use native.Mathlib.Omega.{arith}
 use lib.ListN.{length}
+use Rattle.units.specs.Limits.{segmentsMax}
 use Rattle.units.specs.declared.Date.{Date}
 use Rattle.units.specs.declared.Interval.{Interval}
 use Rattle.units.specs.declared.TxData.{TxData}
@@ -59,7 +60,7 @@ keeping-demand x q =
     record { apart = q .apart; clear = q .clear; inside = q .inside; low = omega (arith, q .low, e); near = omega (arith, q .near, e) }
 
 pub demand-3 : (w : Interval) (rates : List RateSegment) (m : ℕ) (delays : List DelaySegment) (k : ℕ) (o : Opened) (y : State)
-    → length rates ≡ 16 → length delays ≡ 16
+    → length rates ≡ segmentsMax → length delays ≡ segmentsMax
     → Met (open-reads.Post tt (w, (rates, (m, (delays, (k, tt)))))) o → o .number ≡ 0
     → Runs promised (record { manager = o .manager; log = [] }) y
     → Demand y

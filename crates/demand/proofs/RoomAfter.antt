@@ -8,6 +8,7 @@ use mathlib.Core.Logic.{⊎-elim}
 use native.Mathlib.Omega.{arith}
 use lib.ListN.{length}
 use borrow.Author.Tests.{eq-eqb, ne-eqb}
+use Rattle.units.specs.Limits.{segmentsMax}
 use Rattle.units.specs.declared.Date.{Date}
 use Rattle.units.specs.declared.Interval.{Interval}
 use Rattle.units.specs.declared.TxData.{TxData}
@@ -73,7 +74,7 @@ unfolding capSum
 fresh-left o e = record { ok = e; time = omega (arith, time-total (o .manager) e) }
 
 pub room-after : (w : Interval) (rates : List RateSegment) (m : ℕ) (delays : List DelaySegment) (k : ℕ) (o : Opened) (y : State)
-    → length rates ≡ 16 → length delays ≡ 16
+    → length rates ≡ segmentsMax → length delays ≡ segmentsMax
     → Met (open-reads.Post tt (w, (rates, (m, (delays, (k, tt)))))) o → o .number ≡ 0
     → Runs promised (record { manager = o .manager; log = [] }) y
     → (y .manager .room .0 + carried y ≤ totalIn (y .manager .contact))

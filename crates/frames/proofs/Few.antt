@@ -2,6 +2,7 @@
 use Prim.Native.Nat.{ℕ, _≤_}
 use mathlib.Core.Path.{_≡_}
 use native.Mathlib.Omega.{arith}
+use Rattle.units.specs.Limits.{listedMax}
 use Rattle.units.proofs.Logic.{unless-keeps}
 use Rattle.seg.specs.declared.FreeVolume.{FreeVolume}
 use Rattle.seg.specs.declared.Listing.{Listing as FreeListing}
@@ -23,21 +24,22 @@ use Rattle.legacy.specs.declared.Listing.{Listing as QueueListing}
 use Rattle.legacy.specs.Record.{recordOk as queueOk}
 use Rattle.legacy.specs.List.{listOf as listQueue}
 use Rattle.legacy.proofs.Facts.{sound}
+use Rattle.legacy.specs.Open.{classesMax}
 
-pub few-free : (r : FreeVolume) → listFree r .list .count ≤ 64
+pub few-free : (r : FreeVolume) → listFree r .list .count ≤ listedMax
 unfolding listFree
-few-free r = unless-keeps (λ (l : FreeListing). l .list .count ≤ 64) (freeOk r) _ _ (λ e. omega arith) (λ e. free-facts r e .few)
+few-free r = unless-keeps (λ (l : FreeListing). l .list .count ≤ listedMax) (freeOk r) _ _ (λ e. omega arith) (λ e. free-facts r e .few)
 
-pub few-priority : (r : PrioritySeg) → listPriority r .list .count ≤ 64
+pub few-priority : (r : PrioritySeg) → listPriority r .list .count ≤ listedMax
 unfolding listPriority
 few-priority r =
-    unless-keeps (λ (l : PriorityListing). l .list .count ≤ 64) (priorityOk r) _ _ (λ e. omega arith) (λ e. priority-facts r e .few)
+    unless-keeps (λ (l : PriorityListing). l .list .count ≤ listedMax) (priorityOk r) _ _ (λ e. omega arith) (λ e. priority-facts r e .few)
 
-pub few-polynomial : (r : PolySeg) → listPolynomial r .list .count ≤ 64
+pub few-polynomial : (r : PolySeg) → listPolynomial r .list .count ≤ listedMax
 unfolding listPolynomial
 few-polynomial r =
-    unless-keeps (λ (l : PolynomialListing). l .list .count ≤ 64) (polynomialOk r) _ _ (λ e. omega arith) (λ e. polynomial-facts r e .few)
+    unless-keeps (λ (l : PolynomialListing). l .list .count ≤ listedMax) (polynomialOk r) _ _ (λ e. omega arith) (λ e. polynomial-facts r e .few)
 
-pub few-classes : (r : Queue) → listQueue r .classes ≤ 8
+pub few-classes : (r : Queue) → listQueue r .classes ≤ classesMax
 unfolding listQueue
-few-classes r = unless-keeps (λ (l : QueueListing). l .classes ≤ 8) (queueOk r) _ _ (λ e. omega arith) (λ e. sound r e .eight)
+few-classes r = unless-keeps (λ (l : QueueListing). l .classes ≤ classesMax) (queueOk r) _ _ (λ e. omega arith) (λ e. sound r e .eight)

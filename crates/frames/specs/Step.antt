@@ -14,8 +14,11 @@ use Rattle.frames.specs.Opening.{noFrame, freeFrame, priorityFrame, poly
 use Rattle.frames.specs.Calls.{offerFrame, bookFrame, listFrame, enqueueFrame, dequeueFrame, roomFrame}
 
 -- at most 2,048 digits, and nothing else
+abbrev pub digitsMax : ℕ
+digitsMax = 2048
+
 unfoldable pub isLine : List ℕ → Bool
-isLine line = both (leb (length line) 2048) (cleanOf line)
+isLine line = both (leb (length line) digitsMax) (cleanOf line)
 
 -- what stands for kind n, else the rest of the table; 01 writes the kinds in hexadecimal: 10 is 16
 unfoldable pub on : {A : Type 0} → ℕ → ℕ → A → A → A

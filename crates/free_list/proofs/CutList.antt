@@ -7,6 +7,7 @@ use mathlib.Core.Logic.{⊎-elim, _⊎_, inl, inr}
 use native.Mathlib.Omega.{arith}
 use lib.ListN.{length, drop, getD, length-take}
 use lib.Seq.{getD-take}
+use Rattle.units.specs.Limits.{listedMax}
 use Rattle.units.specs.Logic.{both, allOf}
 use Rattle.units.proofs.Numbers.{le-or-lt}
 use Rattle.units.proofs.Arrays.{length-padded, take-padded, unused-padded}
@@ -26,8 +27,8 @@ use Rattle.free_list.proofs.Places.{cut-done, cut-full}
 -- the rules of a record's free list
 pub record Kept (l : List VolumeSegment) (n hi : ℕ) (r : FreeList) : Type 0 where
   pub some : 1 ≤ r .count
-  pub few : r .count ≤ 64
-  pub size : length (r .segments) ≡ 64
+  pub few : r .count ≤ listedMax
+  pub size : length (r .segments) ≡ listedMax
   pub rules : listOk l n hi (listed r) ≡ true
   pub unused : allOf noVolume (drop (r .count) (r .segments)) ≡ true
 
@@ -36,16 +37,16 @@ unfolding noVolume both
 zero-unused = refl
 
 pub listed-in : (f : List VolumeSegment) → listed (listIn f) ≡ f
-listed-in f = take-padded 64 zeroVolume f (length f) refl
+listed-in f = take-padded listedMax zeroVolume f (length f) refl
 
-pub kept-in : (l : List VolumeSegment) (n hi : ℕ) (f : List VolumeSegment) → 1 ≤ length f → length f ≤ 64 → Listed l n hi f → Kept l n hi (listIn f)
+pub kept-in : (l : List VolumeSegment) (n hi : ℕ) (f : List VolumeSegment) → 1 ≤ length f → length f ≤ listedMax → Listed l n hi f → Kept l n hi (listIn f)
 kept-in l n hi f some few q =
     record {
       some = some;
       few = few;
-      size = length-padded 64 zeroVolume f few;
+      size = length-padded listedMax zeroVolume f few;
       rules = ap (listOk l n hi) (listed-in f) ∙ true-listed l n hi f q;
-      unused = unused-padded 64 zeroVolume noVolume f (length f) refl zero-unused;
+      unused = unused-padded listedMax zeroVolume noVolume f (length f) refl zero-unused;
     }
 
 module _ (l : List VolumeSegment) (r : FreeList) (i s e v : ℕ) where
@@ -56,13 +57,13 @@ module _ (l : List VolumeSegment) (r : FreeList) (i s e v : ℕ) where
   abbrev was : VolumeSegment
   was = getD (listed r) i zeroVolume
 
-  pub cut-cases : ((length left ≤ 64) × (cutList l r i s e v ≡ cutAnswer 0 (listIn left) (was .volume .0) (roomOf (leftOf l was s e v []))))
+  pub cut-cases : ((length left ≤ listedMax) × (cutList l r i s e v ≡ cutAnswer 0 (listIn left) (was .volume .0) (roomOf (leftOf l was s e v []))))
       ⊎ (cutList l r i s e v ≡ cutAnswer 10 r 0 0)
   cut-cases =
       ⊎-elim
-      (λ (h : length left ≤ 64). inl (h, cut-done l r i s e v h))
-      (λ (h : 64 < length left). inr (cut-full l r i s e v h))
-      (le-or-lt (length left) 64)
+      (λ (h : length left ≤ listedMax). inl (h, cut-done l r i s e v h))
+      (λ (h : listedMax < length left). inr (cut-full l r i s e v h))
+      (le-or-lt (length left) listedMax)
 
   -- the number is 0 or 10
   pub cut-number : (cutList l r i s e v .number ≡ 0) ⊎ (cutList l r i s e v .number ≡ 10)
@@ -77,14 +78,14 @@ module _ (l : List VolumeSegment) (r : FreeList) (i s e v : ℕ) where
       cut-cases
 
   module _ (z : cutList l r i s e v .number ≡ 0) where
-    cut-zero : (length left ≤ 64) × (cutList l r i s e v .list ≡ listIn left)
+    cut-zero : (length left ≤ listedMax) × (cutList l r i s e v .list ≡ listIn left)
     cut-zero =
         ⊎-elim
         (λ h. (h .0, ap (λ (x : Cut). x .list) (h .1)))
         (λ (h : cutList l r i s e v ≡ cutAnswer 10 r 0 0). absurd (omega (arith, ap (λ (x : Cut). x .number) h)))
         cut-cases
 
-    pub cut-few : length left ≤ 64
+    pub cut-few : length left ≤ listedMax
     cut-few = cut-zero .0
 
     -- what is listed is the cut of what was listed
@@ -100,7 +101,7 @@ module _ (l : List VolumeSegment) (r : FreeList) (i s e v : ℕ) where
         rw cut-list (kept-in l n hi left (cut-some l top hi s e v (listed r) i (omega (arith, at))) cut-few (cut-listed l top hi s e v (listed r) n i q h))
 
   -- an offer of the record's list is one that `cut` takes
-  pub offered-inside-list : (top : ℕ) → r .count ≤ 64 → allOf noVolume (drop (r .count) (r .segments)) ≡ true → Offered l top (listed r) i s e v → Inside r i v
+  pub offered-inside-list : (top : ℕ) → r .count ≤ listedMax → allOf noVolume (drop (r .count) (r .segments)) ≡ true → Offered l top (listed r) i s e v → Inside r i v
   offered-inside-list top few unused h =
       let o = offered-at l top (listed r) i s e v h in
       let lt : i < r .count = omega (arith, simp length-take at (o .0)) in

@@ -8,6 +8,7 @@ use mathlib.Core.Logic.{⊎-elim}
 use native.Mathlib.Omega.{arith}
 use lib.Dec.{eqb}
 use lib.ListN.{length, getD}
+use Rattle.units.specs.Limits.{listedMax}
 use Rattle.units.specs.Logic.{pick}
 use Rattle.segmentation.specs.declared.VolumeSegment.{VolumeSegment}
 use Rattle.segmentation.specs.Capacity.{capacity}
@@ -49,7 +50,7 @@ module _ (l : List VolumeSegment) (s e v : ℕ) where
   cut-room (g ∷ f) (suc i) h = omega (arith, cut-room f i (omega arith))
 
 -- what the cut of a record's list does to the room, refused or done
-pub cut-change : (l : List VolumeSegment) (r : FreeList) (i s e v : ℕ) → length (r .segments) ≡ 64 → Inside r i v
+pub cut-change : (l : List VolumeSegment) (r : FreeList) (i s e v : ℕ) → length (r .segments) ≡ listedMax → Inside r i v
     → roomOf (listed (cutList l r i s e v .list)) + cutList l r i s e v .off .0 ≡ roomOf (listed r) + cutList l r i s e v .on .0
 cut-change l r i s e v size q =
     let n : length (listed r) ≡ r .count = listed-length l r i s e v size q in
@@ -60,7 +61,7 @@ cut-change l r i s e v size q =
     (cut-cases l r i s e v)
 
 -- what it takes off was in the room
-pub cut-off : (l : List VolumeSegment) (r : FreeList) (i s e v : ℕ) → length (r .segments) ≡ 64 → Inside r i v → cutList l r i s e v .off .0 ≤ roomOf (listed r)
+pub cut-off : (l : List VolumeSegment) (r : FreeList) (i s e v : ℕ) → length (r .segments) ≡ listedMax → Inside r i v → cutList l r i s e v .off .0 ≤ roomOf (listed r)
 cut-off l r i s e v size q =
     let n : length (listed r) ≡ r .count = listed-length l r i s e v size q in
     ⊎-elim
@@ -69,7 +70,7 @@ cut-off l r i s e v size q =
     (cut-cases l r i s e v)
 
 -- so a room that is the list's follows from what was taken off and put in
-pub cut-changes : (l : List VolumeSegment) (r : FreeList) (i s e v room : ℕ) → length (r .segments) ≡ 64 → Inside r i v → Roomy l r i s e v room → Changes room (cutList l r i s e v)
+pub cut-changes : (l : List VolumeSegment) (r : FreeList) (i s e v room : ℕ) → length (r .segments) ≡ listedMax → Inside r i v → Roomy l r i s e v room → Changes room (cutList l r i s e v)
 cut-changes l r i s e v room size q k =
     let low = cut-off l r i s e v size q in
     record { low = omega (arith, low, k .is); is = omega (arith, low, k .is, cut-change l r i s e v size q); small = k .small }

@@ -8,6 +8,7 @@ use native.Mathlib.Omega.{arith}
 use lib.ListN.{length, take, drop, getD, set, replicate, length-take, length-drop, length-append}
 use lib.Seq.{set-append-left, take-set-lt, take-suc-set, take-append-le, drop-append-add, getD-take, length-take-le}
 use borrow.Author.Tests.{eqb-true, le-leb, lt-leb}
+use Rattle.units.specs.Limits.{listedMax}
 use Rattle.units.specs.Logic.{allOf}
 use Rattle.units.specs.Arrays.{padded}
 use Rattle.units.proofs.Logic.{both-fst, both-snd, unless-go, unless-stop}
@@ -35,9 +36,9 @@ no-volume-zero s h =
     zero-segment (s .start .0) (s .end .0) (s .volume .0) (eqb-true _ _ (both-fst _ _ h)) (eqb-true _ _ (both-fst _ _ k)) (eqb-true _ _ (both-snd _ _ k))
 
 -- the segments of a record with nothing in its unused places
-pub segments-are : (r : FreeList) → r .count ≤ 64 → length (r .segments) ≡ 64 → allOf noVolume (drop (r .count) (r .segments)) ≡ true
-    → r .segments ≡ padded 64 zeroVolume (listed r)
-segments-are r few size unused = padded-is noVolume zeroVolume no-volume-zero 64 (r .count) (r .segments) size few unused
+pub segments-are : (r : FreeList) → r .count ≤ listedMax → length (r .segments) ≡ listedMax → allOf noVolume (drop (r .count) (r .segments)) ≡ true
+    → r .segments ≡ padded listedMax zeroVolume (listed r)
+segments-are r few size unused = padded-is noVolume zeroVolume no-volume-zero listedMax (r .count) (r .segments) size few unused
 
 -- a store at a place of the list, and one more element after it
 padded-two : {A : Type 0} (m : ℕ) (z : A) (l : List A) (i : ℕ) (x y : A) → i < length l → length l < m
@@ -89,12 +90,12 @@ module _ (l f : List VolumeSegment) (i s e v : ℕ) (lt : i < length f) where
 
 -- The two answers of a cut.
 module _ (l : List VolumeSegment) (r : FreeList) (i s e v : ℕ) where
-  pub cut-done : length (cutOf l (listed r) i s e v) ≤ 64
+  pub cut-done : length (cutOf l (listed r) i s e v) ≤ listedMax
       → cutList l r i s e v ≡ cutAnswer 0 (listIn (cutOf l (listed r) i s e v)) (getD (listed r) i zeroVolume .volume .0) (roomOf (leftOf l (getD (listed r) i zeroVolume) s e v []))
   unfolding cutList
   cut-done h = unless-go _ _ _ (le-leb _ _ h)
 
-  pub cut-full : 64 < length (cutOf l (listed r) i s e v) → cutList l r i s e v ≡ cutAnswer 10 r 0 0
+  pub cut-full : listedMax < length (cutOf l (listed r) i s e v) → cutList l r i s e v ≡ cutAnswer 10 r 0 0
   unfolding cutList
   cut-full h = unless-stop _ _ _ (lt-leb _ _ h)
 
@@ -102,8 +103,8 @@ made : (a b : List VolumeSegment) (n m off on to : ℕ) → a ≡ b → n ≡ m 
 made a b n m off on to h k j = rw (h, k, j)
 
 -- The stores of a cut in a record are the cut of its list.
-module _ (l : List VolumeSegment) (r : FreeList) (i s e v : ℕ) (size : length (r .segments) ≡ 64) (q : Inside r i v) where
-  few : r .count ≤ 64
+module _ (l : List VolumeSegment) (r : FreeList) (i s e v : ℕ) (size : length (r .segments) ≡ listedMax) (q : Inside r i v) where
+  few : r .count ≤ listedMax
   few = q .few
 
   at : i < r .count
@@ -115,7 +116,7 @@ module _ (l : List VolumeSegment) (r : FreeList) (i s e v : ℕ) (size : length 
   in-list : i < length (listed r)
   in-list = omega (arith, listed-length, at)
 
-  whole : r .segments ≡ padded 64 zeroVolume (listed r)
+  whole : r .segments ≡ padded listedMax zeroVolume (listed r)
   whole = segments-are r few size (q .unused)
 
   here : getD (listed r) i zeroVolume ≡ getD (r .segments) i zeroVolume
@@ -132,19 +133,19 @@ module _ (l : List VolumeSegment) (r : FreeList) (i s e v : ℕ) (size : length 
       → leftIn (set (r .segments) i x) (r .count) (was .volume .0) on ≡ cutList l r i s e v
   stored-is x on h j =
       let len : length (cutOf l (listed r) i s e v) ≡ length (listed r) = ap length h ∙ one-length l (listed r) i s e v in-list x in
-      made _ _ _ _ _ _ _ (ap (λ (a : List VolumeSegment). set a i x) whole ∙ padded-set 64 zeroVolume (listed r) i x in-list ∙ ap (padded 64 zeroVolume) (sym h))
+      made _ _ _ _ _ _ _ (ap (λ (a : List VolumeSegment). set a i x) whole ∙ padded-set listedMax zeroVolume (listed r) i x in-list ∙ ap (padded listedMax zeroVolume) (sym h))
       (omega (arith, len, listed-length)) j
       ∙ sym (cut-done l r i s e v (omega (arith, len, listed-length, few)))
 
-  two-is : (x y : VolumeSegment) (on : ℕ) → r .count < 64 → cutOf l (listed r) i s e v ≡ take i (listed r) ++ (x ∷ (y ∷ drop (suc i) (listed r)))
+  two-is : (x y : VolumeSegment) (on : ℕ) → r .count < listedMax → cutOf l (listed r) i s e v ≡ take i (listed r) ++ (x ∷ (y ∷ drop (suc i) (listed r)))
       → length (cutOf l (listed r) i s e v) ≡ suc (length (listed r)) → on ≡ put
       → leftIn (set (insertOf (r .segments) (r .count) (i + 1) y) i x) (r .count + 1) (was .volume .0) on ≡ cutList l r i s e v
   two-is x y on room h len j =
-      let two : set (insertOf (r .segments) (r .count) (i + 1) y) i x ≡ padded 64 zeroVolume (cutOf l (listed r) i s e v)
+      let two : set (insertOf (r .segments) (r .count) (i + 1) y) i x ≡ padded listedMax zeroVolume (cutOf l (listed r) i s e v)
       = ap (λ (a : List VolumeSegment). set (insertOf a (r .count) (i + 1) y) i x) whole
-      ∙ ap (λ (n : ℕ). set (insertOf (padded 64 zeroVolume (listed r)) n (i + 1) y) i x) (sym listed-length)
-      ∙ padded-two 64 zeroVolume (listed r) i x y in-list (omega (arith, listed-length))
-      ∙ ap (padded 64 zeroVolume) (sym h) in
+      ∙ ap (λ (n : ℕ). set (insertOf (padded listedMax zeroVolume (listed r)) n (i + 1) y) i x) (sym listed-length)
+      ∙ padded-two listedMax zeroVolume (listed r) i x y in-list (omega (arith, listed-length))
+      ∙ ap (padded listedMax zeroVolume) (sym h) in
       made _ _ _ _ _ _ _ two (omega (arith, len, listed-length)) j
       ∙ sym (cut-done l r i s e v (omega (arith, len, listed-length)))
 
@@ -167,10 +168,10 @@ module _ (l : List VolumeSegment) (r : FreeList) (i s e v : ℕ) (size : length 
       two-length : length (cutOf l (listed r) i s e v) ≡ suc (length (listed r))
       two-length = cut-two-length l (listed r) i s e v in-list within k
 
-      pub book-full : 64 ≤ r .count → cutAnswer 10 r 0 0 ≡ cutList l r i s e v
+      pub book-full : listedMax ≤ r .count → cutAnswer 10 r 0 0 ≡ cutList l r i s e v
       book-full full = sym (cut-full l r i s e v (omega (arith, two-length, listed-length)))
 
-      pub book-two : r .count < 64
+      pub book-two : r .count < listedMax
           → leftIn (set (insertOf (r .segments) (r .count) (i + 1) (stretchOf l e (seg .end .0))) i (stretchOf l (seg .start .0) s)) (r .count + 1)
           (seg .volume .0) (capacity l (seg .start .0) s + capacity l e (seg .end .0))
           ≡ cutList l r i s e v

@@ -1,5 +1,5 @@
 -- Laws of the walk: what a rate segment adds, the ways of a turn, and what a turn keeps.
-use Prim.Native.Nat.{ℕ, zero, suc, _+_, _-_, _*_, _<_, _≤_, _^_, min, max}
+use Prim.Native.Nat.{ℕ, zero, suc, _+_, _-_, _*_, _<_, _≤_, min, max}
 use mathlib.Core.Bool.{true, false}
 use mathlib.Core.Path.{_≡_, refl, sym, ap, _∙_}
 use mathlib.Core.List.{List, [], _∷_}
@@ -9,6 +9,7 @@ use native.Mathlib.Omega.{arith}
 use lib.Dec.{ltb}
 use lib.ListN.{length, take, drop, getD, length-take, drop-of-length-le}
 use borrow.Author.Tests.{le-leb, lt-leb, lt-ltb, le-ltb, ltb-true, ltb-false}
+use Rattle.units.specs.Limits.{dateMax, volumeMax, segmentsMax, listedMax}
 use Rattle.units.specs.declared.Date.{Date}
 use Rattle.units.specs.Logic.{pick}
 use Rattle.units.proofs.Logic.{pick-keeps}
@@ -130,7 +131,7 @@ module _ (l : List VolumeSegment) (w : Walk) (st : Stands l w) where
       (le-or-lt a y)))
       (le-or-lt a (w .start .0))
 
-  carries : w .rate .0 * (w .end .0 - w .start .0) ≤ 2 ^ 38
+  carries : w .rate .0 * (w .end .0 - w .start .0) ≤ volumeMax
   carries = rw (st .rates, st .starts, st .ends) (omega (arith, st .ok .whole, st .ok .small))
 
   forth : w .start .0 ≤ w .end .0
@@ -167,10 +168,10 @@ module _ (l : List VolumeSegment) (w : Walk) (st : Stands l w) where
         omega (arith, st .ends),
       )
 
-  piece-small : (x y : ℕ) → w .start .0 ≤ x → y ≤ w .end .0 → w .rate .0 * (y - x) ≤ 2 ^ 38
+  piece-small : (x y : ℕ) → w .start .0 ≤ x → y ≤ w .end .0 → w .rate .0 * (y - x) ≤ volumeMax
   piece-small x y h k = omega (arith, mul-le-mul-left {m = y - x} {n = w .end .0 - w .start .0} (w .rate .0) (omega arith), carries)
 
-pub room-for : (w : Walk) → WalkOk w → (a b : ℕ) → w .rate .0 * (min b (w .end .0) - max a (w .start .0)) ≤ 2 ^ 38
+pub room-for : (w : Walk) → WalkOk w → (a b : ℕ) → w .rate .0 * (min b (w .end .0) - max a (w .start .0)) ≤ volumeMax
 room-for w k a b =
     omega (arith, mul-le-mul-left {m = min b (w .end .0) - max a (w .start .0)} {n = w .end .0 - w .start .0} (w .rate .0) (omega arith), k .carries)
 
@@ -180,10 +181,10 @@ piece-none r x y h = let z : y - x ≡ 0 = omega arith in rw z (sym (mul-zero r)
 -- The walk in the loop.
 pub record Walking (l : List VolumeSegment) (f : List VolumeSegment) (from hi n : ℕ) (w : Walk) : Type 0 where
   pub le : w .i ≤ n
-  pub few : w .place < 16
-  pub small : w .sum .0 ≤ w .place * 2 ^ 38
+  pub few : w .place < segmentsMax
+  pub small : w .sum .0 ≤ w .place * volumeMax
   pub same : listOk l from hi f ≡ listOk l (w .low .0) hi (drop (w .i) f)
-  pub bound : w .room .0 ≤ w .i * 2 ^ 42
+  pub bound : w .room .0 ≤ w .i * (segmentsMax * volumeMax)
   pub sums : roomOf f ≡ w .room .0 + roomOf (drop (w .i) f)
   pub stands : Stands l w
   pub ahead : (g : VolumeSegment) → drop (w .i) f ≡ g ∷ drop (w .i + 1) f → w .low .0 ≤ g .start .0 → g .start .0 ≤ g .end .0
@@ -191,11 +192,11 @@ pub record Walking (l : List VolumeSegment) (f : List VolumeSegment) (from hi n 
 
 -- what a turn's answer says
 abbrev pub Answer : List VolumeSegment → List VolumeSegment → ℕ → ℕ → ℕ → Walk → Taken → Type 0
-Answer l f from hi n w (Go k) = (Walking l f from hi n k) × ((n - k .i) + (16 - k .place) < (n - w .i) + (16 - w .place))
+Answer l f from hi n w (Go k) = (Walking l f from hi n k) × ((n - k .i) + (segmentsMax - k .place) < (n - w .i) + (segmentsMax - w .place))
 Answer l f from hi n w No = listOk l from hi f ≡ false
 
 module _ (l : List VolumeSegment) (f : List VolumeSegment) (from hi n : ℕ) (w : Walk) (q : Walking l f from hi n w) where
-  pub walk-ok : w .i < n → n ≤ 64 → WalkOk w
+  pub walk-ok : w .i < n → n ≤ listedMax → WalkOk w
   walk-ok lt le =
       record { forth = forth l w (q .stands); small = q .small; few = q .few; listed = omega arith; carries = carries l w (q .stands); bound = q .bound }
 
@@ -220,7 +221,7 @@ module _ (l : List VolumeSegment) (f : List VolumeSegment) (from hi n : ℕ) (w 
           let c = found-is l w (q .stands) (g .start .0) (g .end .0) (max (g .start .0) (w .start .0)) (min (g .end .0) (w .end .0)) refl refl (a .0) h2 in
           rw e (omega (arith, c, a .1))
 
-      go-on : length l ≤ 16 → hi ≡ closeOf 0 l → w .end .0 < g .end .0 → (w .place + 1 < length l → drop (w .place + 1) l ≡ s ∷ drop (w .place + 1 + 1) l)
+      go-on : length l ≤ segmentsMax → hi ≡ closeOf 0 l → w .end .0 < g .end .0 → (w .place + 1 < length l → drop (w .place + 1) l ≡ s ∷ drop (w .place + 1 + 1) l)
           → Answer l f from hi n w (Go (onOf w g s))
       go-on sixteen top h4 next =
           let more : w .place + 1 < length l = stands-more l w (q .stands) (omega arith) in
@@ -278,7 +279,7 @@ module _ (l : List VolumeSegment) (f : List VolumeSegment) (from hi n : ℕ) (w 
             omega (arith, q .few),
           )
 
-    walk-turn : length l ≤ 16 → hi ≡ closeOf 0 l → (w .place + 1 < length l → drop (w .place + 1) l ≡ s ∷ drop (w .place + 1 + 1) l)
+    walk-turn : length l ≤ segmentsMax → hi ≡ closeOf 0 l → (w .place + 1 < length l → drop (w .place + 1) l ≡ s ∷ drop (w .place + 1 + 1) l)
         → Answer l f from hi n w (turnOf w g s hi)
     walk-turn sixteen top next =
         turn-cases w g s hi (Answer l f from hi n w)
@@ -339,13 +340,13 @@ run-drop [] k a (suc p) s r e = absurd (no-cons e)
 run-drop (g ∷ ss) k a zero s r e = let q : g ≡ s = cc in rw (← q) (r .1)
 run-drop (g ∷ ss) k a (suc p) s r e = run-drop ss k (g .end .0) p s (r .2) e
 
-close-small : (l : List VolumeSegment) (a : ℕ) → Run a l → a ≤ 2 ^ 40 → closeOf a l ≤ 2 ^ 40
+close-small : (l : List VolumeSegment) (a : ℕ) → Run a l → a ≤ dateMax → closeOf a l ≤ dateMax
 unfolding Run closeOf
 close-small [] a r h = h
 close-small (s ∷ ss) a r h = close-small ss (s .end .0) (r .2) (r .1 .date)
 
 -- the window's end is a date
-pub hi-small : (l k : List VolumeSegment) (s : VolumeSegment) (lo hi : ℕ) → l ≡ s ∷ k → Window l lo hi → hi ≤ 2 ^ 40
+pub hi-small : (l k : List VolumeSegment) (s : VolumeSegment) (lo hi : ℕ) → l ≡ s ∷ k → Window l lo hi → hi ≤ dateMax
 hi-small l k s lo hi e w =
     let o = first-ok l k s lo hi e w in
     rw (← w .last) (close-small l lo (w .run) (omega (arith, o .1, o .0 .some, o .0 .date)))
@@ -384,7 +385,7 @@ pub record Going (l : List VolumeSegment) (f : List VolumeSegment) (from hi n : 
 
 pub loop-turn : (l : List VolumeSegment) (f : List VolumeSegment) (from hi n : ℕ) (w : Walk) (i j : ℕ) (g : VolumeSegment) (s : VolumeSegment) (r : Taken)
     → Going l f from hi n w i j → i < n → drop i f ≡ g ∷ drop (i + 1) f → (j + 1 < length l → drop (j + 1) l ≡ s ∷ drop (j + 1 + 1) l)
-    → length l ≤ 16 → hi ≡ closeOf 0 l → r ≡ turnOf w g s hi → Answer l f from hi n w r
+    → length l ≤ segmentsMax → hi ≡ closeOf 0 l → r ≡ turnOf w g s hi → Answer l f from hi n w r
 loop-turn l f from hi n w i j g s r q lt here next sixteen top is =
     let h : drop (w .i) f ≡ g ∷ drop (w .i + 1) f = rw (q .at-i) at here in
     let k : w .place + 1 < length l → drop (w .place + 1) l ≡ s ∷ drop (w .place + 1 + 1) l = rw (q .at-j) at next in

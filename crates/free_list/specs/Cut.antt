@@ -3,6 +3,7 @@ use Prim.Native.Nat.{ℕ, zero, suc, _-_}
 use mathlib.Core.List.{List, [], _∷_}
 use lib.Dec.{leb, eqb}
 use lib.ListN.{length, take, getD}
+use Rattle.units.specs.Limits.{listedMax}
 use Rattle.units.specs.declared.Interval.{Interval}
 use Rattle.units.specs.Logic.{pick, unless}
 use Rattle.units.specs.Arrays.{padded}
@@ -40,7 +41,7 @@ listed r = take (r .count) (r .segments)
 
 -- the record's list of these segments
 abbrev pub listIn : List VolumeSegment → FreeList
-listIn f = record { segments = padded 64 zeroVolume f; count = length f }
+listIn f = record { segments = padded listedMax zeroVolume f; count = length f }
 
 -- what an opening lists: the whole window, with a volume
 abbrev pub wholeWindow : Interval → ℕ → VolumeSegment
@@ -54,5 +55,5 @@ cutAnswer n f off on = record { number = n; list = f; off = record { 0 = off }; 
 unfoldable pub cutList : List VolumeSegment → FreeList → ℕ → ℕ → ℕ → ℕ → Cut
 cutList l r i s e v =
     let g = getD (listed r) i zeroVolume in
-    unless (leb (length (cutOf l (listed r) i s e v)) 64) (cutAnswer 10 r 0 0)
+    unless (leb (length (cutOf l (listed r) i s e v)) listedMax) (cutAnswer 10 r 0 0)
     (cutAnswer 0 (listIn (cutOf l (listed r) i s e v)) (g .volume .0) (roomOf (leftOf l g s e v [])))

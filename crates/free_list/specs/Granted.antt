@@ -5,6 +5,7 @@ use mathlib.Core.Path.{_≡_}
 use mathlib.Core.List.{List, _∷_, _++_}
 use lib.Dec.{ltb}
 use lib.ListN.{take, drop, getD}
+use Rattle.units.specs.Limits.{volumeMax, segmentsMax, listedMax}
 use Rattle.units.specs.declared.Date.{Date}
 use Rattle.units.specs.Logic.{pick, unless, allOf}
 use Rattle.segmentation.specs.declared.DelaySegment.{DelaySegment}
@@ -36,7 +37,7 @@ pub record Window (l : List VolumeSegment) (lo hi : ℕ) : Type 0 where
 
 -- the place is listed and holds the size, and nothing is in an unused place
 pub record Inside (r : FreeList) (place v : ℕ) : Type 0 where
-  pub few : r .count ≤ 64
+  pub few : r .count ≤ listedMax
   pub at : place < r .count
   pub room : v ≤ getD (r .segments) place zeroVolume .volume .0
   pub unused : allOf noVolume (drop (r .count) (r .segments)) ≡ true
@@ -79,11 +80,11 @@ endIn E g t v = pick (ltb (g .end .0) t) no-end (endFrom E g (max (g .start .0) 
 -- the walk's numbers fit
 pub record WalkOk (w : Walk) : Type 0 where
   pub forth : w .start .0 ≤ w .end .0
-  pub small : w .sum .0 ≤ w .place * 2 ^ 38
-  pub few : w .place < 16
-  pub listed : w .i < 64
-  pub carries : w .rate .0 * (w .end .0 - w .start .0) ≤ 2 ^ 38
-  pub bound : w .room .0 ≤ w .i * 2 ^ 42
+  pub small : w .sum .0 ≤ w .place * volumeMax
+  pub few : w .place < segmentsMax
+  pub listed : w .i < listedMax
+  pub carries : w .rate .0 * (w .end .0 - w .start .0) ≤ volumeMax
+  pub bound : w .room .0 ≤ w .i * (segmentsMax * volumeMax)
 
 abbrev pub startOf : VolumeSegment → Date → Walk
 startOf s low =

@@ -11,6 +11,7 @@ ghost use mathlib.Core.Bool.{true};
 ghost use mathlib.Core.List.{List, [], _∷_};
 ghost use Prim.Native.Nat.{_+_, _-_, _<_, _≤_, _^_};
 ghost use lib.ListN.{take, drop};
+ghost use Rattle.units.specs.Limits.{segmentsMax, listedMax};
 ghost use Rattle.units.specs.Logic.{allOf};
 ghost use Rattle.segmentation.specs.Granted.{Run, Runs, Covers};
 ghost use Rattle.segmentation.specs.End.{endOf};
@@ -29,7 +30,7 @@ pub struct FreeList {
 }
 
 impl FreeList {
-    pub const COUNT_MAX: usize = 64;
+    pub const COUNT_MAX: usize = Interval::LISTED_MAX;
 }
 
 // The listed segment that makes the offer, and the send interval.
@@ -68,7 +69,7 @@ impl Chosen {
 
 // Is nothing in the places from the count on?
 pub fn unused(segments: [VolumeSegment; FreeList::COUNT_MAX], count: usize) -> bool
-    requires { ⌜ count ≤ 64 ⌝ }
+    requires { ⌜ count ≤ listedMax ⌝ }
     ensures { λ r. ⌜ r ≡ allOf noVolume (drop count segments) ⌝ }
 {
     let mut i = count;
@@ -92,7 +93,7 @@ pub fn end_in(
     asked: Date,
     size: Volume,
 ) -> End
-    requires { ⌜ m ≤ 16 ⌝ ∗ ⌜ 0 < size .0 ⌝ ∗ ⌜ Covers (g .start .0) (take m rates) ⌝ }
+    requires { ⌜ m ≤ segmentsMax ⌝ ∗ ⌜ 0 < size .0 ⌝ ∗ ⌜ Covers (g .start .0) (take m rates) ⌝ }
     ensures { λ r. ⌜ r ≡ endIn (endOf (take m rates)) g (asked .0) (size .0) ⌝ }
 {
     let end = g.end;
@@ -116,7 +117,7 @@ pub fn find_offer(
     asked: Date,
     size: Volume,
 ) -> Found
-    requires { ⌜ m ≤ 16 ⌝ ∗ ⌜ n ≤ 64 ⌝ ∗ ⌜ 0 < size .0 ⌝ ∗ ⌜ Run (window .start .0) (take m rates) ⌝ ∗ ⌜ listOk (take m rates) (window .start .0) (window .end .0) (take n segments) ≡ true ⌝ }
+    requires { ⌜ m ≤ segmentsMax ⌝ ∗ ⌜ n ≤ listedMax ⌝ ∗ ⌜ 0 < size .0 ⌝ ∗ ⌜ Run (window .start .0) (take m rates) ⌝ ∗ ⌜ listOk (take m rates) (window .start .0) (window .end .0) (take n segments) ≡ true ⌝ }
     ensures { λ r. ⌜ r ≡ offerOf (endOf (take m rates)) (take n segments) (asked .0) (size .0) ⌝ }
 {
     let mut i: usize = 0;
@@ -147,7 +148,7 @@ pub fn insert(
     i: usize,
     s: VolumeSegment,
 ) -> [VolumeSegment; FreeList::COUNT_MAX]
-    requires { ⌜ i ≤ n ⌝ ∗ ⌜ n < 64 ⌝ }
+    requires { ⌜ i ≤ n ⌝ ∗ ⌜ n < listedMax ⌝ }
     ensures { λ r. ⌜ r ≡ insertOf segments n i s ⌝ }
 {
     let mut a = segments;
@@ -182,7 +183,7 @@ pub fn stretch(
     start: Date,
     end: Date,
 ) -> VolumeSegment
-    requires { ⌜ m ≤ 16 ⌝ ∗ ⌜ Runs (take m rates) ⌝ }
+    requires { ⌜ m ≤ segmentsMax ⌝ ∗ ⌜ Runs (take m rates) ⌝ }
     ensures { λ r. ⌜ r ≡ stretchOf (take m rates) (start .0) (end .0) ⌝ }
 {
     let volume = segmentation::volume_between(rates, m, start, end);
@@ -266,7 +267,7 @@ impl FreeList {
         send: Interval,
         size: Volume,
     ) -> Cut
-        requires { ⌜ m ≤ 16 ⌝ ∗ ⌜ Runs (take m rates) ⌝ ∗ ⌜ Inside self place (size .0) ⌝ }
+        requires { ⌜ m ≤ segmentsMax ⌝ ∗ ⌜ Runs (take m rates) ⌝ ∗ ⌜ Inside self place (size .0) ⌝ }
         ensures { λ r. ⌜ r ≡ cutList (take m rates) self place (send .start .0) (send .end .0) (size .0) ⌝ }
     {
         let from = send.start;

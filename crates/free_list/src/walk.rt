@@ -6,9 +6,10 @@ use units::Interval;
 use units::Rate;
 use units::Volume;
 ghost use mathlib.Core.Path.{_≡_};
-ghost use Prim.Native.Nat.{_-_, _*_, _≤_, _<_, _^_, min, max};
+ghost use Prim.Native.Nat.{_-_, _*_, _≤_, _<_, min, max};
 ghost use lib.Dec.{eqb};
 ghost use lib.ListN.{take};
+ghost use Rattle.units.specs.Limits.{dateMax, segmentsMax, listedMax};
 ghost use Rattle.units.specs.Logic.{both};
 ghost use Rattle.segmentation.specs.Granted.{SegOk};
 ghost use Rattle.free_list.specs.Listed.{listOk};
@@ -69,7 +70,7 @@ pub fn piece(w: Walk, a: Date, b: Date) -> Volume
 
 // One turn, with the listed segment at the walk's place and the rate segment after the one in hand.
 pub fn turn(w: Walk, g: VolumeSegment, s: VolumeSegment, to: Date) -> Taken
-    requires { ⌜ WalkOk w ⌝ ∗ ⌜ SegOk s ⌝ ∗ ⌜ to .0 ≤ 2 ^ 40 ⌝ }
+    requires { ⌜ WalkOk w ⌝ ∗ ⌜ SegOk s ⌝ ∗ ⌜ to .0 ≤ dateMax ⌝ }
     ensures { λ r. ⌜ r ≡ turnOf w g s (to .0) ⌝ }
 {
     let a = g.start;
@@ -140,7 +141,7 @@ pub fn listed_ok(
     window: Interval,
     room: Volume,
 ) -> bool
-    requires { ⌜ (1 ≤ m) × (m ≤ 16) ⌝ ∗ ⌜ n ≤ 64 ⌝ ∗ ⌜ Window (take m rates) (window .start .0) (window .end .0) ⌝ }
+    requires { ⌜ (1 ≤ m) × (m ≤ segmentsMax) ⌝ ∗ ⌜ n ≤ listedMax ⌝ ∗ ⌜ Window (take m rates) (window .start .0) (window .end .0) ⌝ }
     ensures { λ r. ⌜ r ≡ both (listOk (take m rates) (window .start .0) (window .end .0) (take n free)) (eqb (room .0) (roomOf (take n free))) ⌝ }
 {
     let hi = window.end;

@@ -5,6 +5,7 @@ use mathlib.Core.Path.{_≡_, sym, ap, _∙_}
 use mathlib.Core.List.{List}
 use native.Mathlib.Omega.{arith}
 use lib.ListN.{length, getD, set}
+use Rattle.units.specs.Limits.{listedMax}
 use Rattle.segmentation.specs.declared.VolumeSegment.{VolumeSegment}
 use Rattle.contact.specs.Segments.{zeroVolume}
 use Rattle.free_list.specs.declared.FreeList.{FreeList}
@@ -26,7 +27,7 @@ pub record Made (room off on : ℕ) (f : FreeList) : Type 0 where
   pub is : room - off + on ≡ roomOf (listed f)
 
 -- g is the segment read at the place
-module _ (l : List VolumeSegment) (r : FreeList) (i s e v : ℕ) (size : length (r .segments) ≡ 64) (q : Inside r i v) (g : VolumeSegment) (read : g ≡ getD (r .segments) i zeroVolume) where
+module _ (l : List VolumeSegment) (r : FreeList) (i s e v : ℕ) (size : length (r .segments) ≡ listedMax) (q : Inside r i v) (g : VolumeSegment) (read : g ≡ getD (r .segments) i zeroVolume) where
   abbrev cut : Cut
   cut = cutList l r i s e v
 
@@ -42,10 +43,10 @@ module _ (l : List VolumeSegment) (r : FreeList) (i s e v : ℕ) (size : length 
     leaves-flat a k put = rw (put, before, read) (parts _ _ _ _ _ (book-flat l r i s e v size q (rw read at h) k))
 
     module _ (k : s ≡ e → ⊥) where
-      pub leaves-full : 64 ≤ r .count → AsCut 10 (r .segments) (r .count)
+      pub leaves-full : listedMax ≤ r .count → AsCut 10 (r .segments) (r .count)
       leaves-full full = parts _ _ _ _ _ (book-full l r i s e v size q (rw read at h) k full)
 
-      pub leaves-two : (a b : List VolumeSegment) (y : VolumeSegment) → r .count < 64 → y ≡ stretchOf l e (g .end .0)
+      pub leaves-two : (a b : List VolumeSegment) (y : VolumeSegment) → r .count < listedMax → y ≡ stretchOf l e (g .end .0)
           → b ≡ insertOf (r .segments) (r .count) (i + 1) y → a ≡ set b i x → AsCut 0 a (r .count + 1)
       leaves-two a b y lt after insert put =
           rw (put, insert, before, after, read) (parts _ _ _ _ _ (book-two l r i s e v size q (rw read at h) k lt))
@@ -68,7 +69,7 @@ module _ (l : List VolumeSegment) (r : FreeList) (i s e v : ℕ) (size : length 
       pub makes-flat : s ≡ e → Made room (g .volume .0) (x .volume .0) (cut .list)
       makes-flat k = rw (before, read) (makes _ _ _ (book-flat l r i s e v size q (rw read at h) k))
 
-      pub makes-two : (s ≡ e → ⊥) → (y : VolumeSegment) → r .count < 64 → y ≡ stretchOf l e (g .end .0) → Made room (g .volume .0) (x .volume .0 + y .volume .0) (cut .list)
+      pub makes-two : (s ≡ e → ⊥) → (y : VolumeSegment) → r .count < listedMax → y ≡ stretchOf l e (g .end .0) → Made room (g .volume .0) (x .volume .0 + y .volume .0) (cut .list)
       makes-two k y lt after = rw (before, after, read) (makes _ _ _ (book-two l r i s e v size q (rw read at h) k lt))
 
 -- what the new room is, where the list left is the cut's

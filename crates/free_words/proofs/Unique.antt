@@ -4,6 +4,7 @@ use mathlib.Core.Path.{_≡_, sym, ap, _∙_}
 use borrow.Fn.Kinds.{Dens, endedOf}
 use denote.Triple.Clauses.{AtExit}
 use contract.Lifetimes.{Lfts}
+use Rattle.units.specs.Limits.{listedMax}
 use Rattle.units.proofs.Determined.{Determined}
 use Rattle.free_list.specs.declared.FreeList.{FreeList}
 use Rattle.free_list.specs.Cut.{listed}
@@ -28,7 +29,7 @@ module _ (κs : Lfts 1) where
 
   pub insert-unique : (a : Dens κs insert-kinds.ps)
       → Determined (Leaves (λ (s : AtExit (endedOf 1 insert-kinds.ps insert-kinds.r) κs). s .0 .now) (insert-reads.Post κs a tt))
-  insert-unique a r q x y f g = same-numbers r q 64 (f .1) (g .1) (ap volumesIn (f .0) ∙ f .2 ∙ sym (ap volumesIn (g .0) ∙ g .2))
+  insert-unique a r q x y f g = same-numbers r q listedMax (f .1) (g .1) (ap volumesIn (f .0) ∙ f .2 ∙ sym (ap volumesIn (g .0) ∙ g .2))
 
   pub stretch-unique : (a : Dens κs stretch-kinds.ps) → Determined (stretch-reads.Post κs a)
   stretch-unique a r q x y f g = f ∙ sym g
@@ -49,7 +50,7 @@ module _ (κs : Lfts 4) where
   pub cut-leaves-unique : (a : Dens κs cut-kinds.ps) (k : ℕ) → Determined (Leaves (λ (s : Exit). s .1 .1 .1 .1 .1 .1 .0 .now) (cut-reads.Post κs a k))
   cut-leaves-unique a k r q x y f g =
       let same = f .2 .1 .0 ∙ sym (g .2 .1 .0) in
-      same-numbers r q 64 (f .1) (g .1) (ap volumesIn (f .0) ∙ ap (λ (l : FreeList). l .segments) same ∙ sym (ap volumesIn (g .0)))
+      same-numbers r q listedMax (f .1) (g .1) (ap volumesIn (f .0) ∙ ap (λ (l : FreeList). l .segments) same ∙ sym (ap volumesIn (g .0)))
 
   pub cut-count-unique : (a : Dens κs cut-kinds.ps) (k : ℕ) → Determined (λ (n : ℕ) (s : Exit). (n ≡ s .1 .1 .1 .1 .1 .1 .1 .0 .now) × (cut-reads.Post κs a k s))
   cut-count-unique a k r q x y f g = f .0 ∙ ap (λ (l : FreeList). l .count) (f .1 .1 .0 ∙ sym (g .1 .1 .0)) ∙ sym (g .0)

@@ -5,12 +5,15 @@ use segmentation::VolumeSegment;
 use units::Date;
 use units::Interval;
 use units::Volume;
+use words::LISTED;
+use words::SEGMENTS;
 use words::listed_at;
 use words::put_at;
 ghost use mathlib.Core.Path.{_≡_};
 ghost use mathlib.Core.Bool.{true};
 ghost use Prim.Native.Nat.{_<_, _≤_};
 ghost use lib.ListN.{take, getD};
+ghost use Rattle.units.specs.Limits.{segmentsMax, listedMax};
 ghost use Rattle.contact.specs.Segments.{zeroVolume};
 ghost use Rattle.segmentation.specs.Granted.{Run, Runs, Covers};
 ghost use Rattle.segmentation.specs.End.{endOf};
@@ -26,8 +29,8 @@ ghost use Rattle.free_words.specs.Words.{freeIn};
 fn told(words: &[u64]) {}
 
 // The end that a listed segment has for the bundle: none if it ends before the asked time or lists less than the size.
-pub fn end_in(rates: &[u64; 48], m: usize, g: VolumeSegment, asked: Date, size: Volume) -> End
-    requires { ⌜ m ≤ 16 ⌝ ∗ ⌜ 0 < size .0 ⌝ ∗ ⌜ Covers (g .start .0) (take m (volumesIn (now rates))) ⌝ }
+pub fn end_in(rates: &[u64; SEGMENTS], m: usize, g: VolumeSegment, asked: Date, size: Volume) -> End
+    requires { ⌜ m ≤ segmentsMax ⌝ ∗ ⌜ 0 < size .0 ⌝ ∗ ⌜ Covers (g .start .0) (take m (volumesIn (now rates))) ⌝ }
     ensures { λ r. ⌜ r ≡ endIn (endOf (take m (volumesIn (now (rates .entry))))) g (asked .0) (size .0) ⌝ }
 {
     let end = g.end;
@@ -43,15 +46,15 @@ pub fn end_in(rates: &[u64; 48], m: usize, g: VolumeSegment, asked: Date, size: 
 
 // dry_run_tx: the first listed segment that has an end for the bundle.
 pub fn find_offer(
-    rates: &[u64; 48],
+    rates: &[u64; SEGMENTS],
     m: usize,
-    free: &[u64; 192],
+    free: &[u64; LISTED],
     n: usize,
     window: Interval,
     asked: Date,
     size: Volume,
 ) -> Found
-    requires { ⌜ m ≤ 16 ⌝ ∗ ⌜ n ≤ 64 ⌝ ∗ ⌜ 0 < size .0 ⌝ ∗ ⌜ Run (window .start .0) (take m (volumesIn (now rates))) ⌝ ∗ ⌜ listOk (take m (volumesIn (now rates))) (window .start .0) (window .end .0) (take n (volumesIn (now free))) ≡ true ⌝ }
+    requires { ⌜ m ≤ segmentsMax ⌝ ∗ ⌜ n ≤ listedMax ⌝ ∗ ⌜ 0 < size .0 ⌝ ∗ ⌜ Run (window .start .0) (take m (volumesIn (now rates))) ⌝ ∗ ⌜ listOk (take m (volumesIn (now rates))) (window .start .0) (window .end .0) (take n (volumesIn (now free))) ≡ true ⌝ }
     ensures { λ r. ⌜ r ≡ offerOf (endOf (take m (volumesIn (now (rates .entry))))) (take n (volumesIn (now (free .entry)))) (asked .0) (size .0) ⌝ }
 {
     told(free);
@@ -77,8 +80,8 @@ pub fn find_offer(
 }
 
 // One more segment at a place, those from it on moved up.
-pub fn insert(free: &mut [u64; 192], n: usize, i: usize, s: VolumeSegment)
-    requires { ⌜ i ≤ n ⌝ ∗ ⌜ n < 64 ⌝ }
+pub fn insert(free: &mut [u64; LISTED], n: usize, i: usize, s: VolumeSegment)
+    requires { ⌜ i ≤ n ⌝ ∗ ⌜ n < listedMax ⌝ }
     ensures { λ r. ⌜ volumesIn (now (free .exit)) ≡ insertOf (volumesIn (now (free .entry))) n i s ⌝ }
 {
     told(free);
@@ -93,8 +96,8 @@ pub fn insert(free: &mut [u64; 192], n: usize, i: usize, s: VolumeSegment)
 }
 
 // A stretch of free time with its volume worked out anew.
-pub fn stretch(rates: &[u64; 48], m: usize, start: Date, end: Date) -> VolumeSegment
-    requires { ⌜ m ≤ 16 ⌝ ∗ ⌜ Runs (take m (volumesIn (now rates))) ⌝ }
+pub fn stretch(rates: &[u64; SEGMENTS], m: usize, start: Date, end: Date) -> VolumeSegment
+    requires { ⌜ m ≤ segmentsMax ⌝ ∗ ⌜ Runs (take m (volumesIn (now rates))) ⌝ }
     ensures { λ r. ⌜ r ≡ stretchOf (take m (volumesIn (now (rates .entry)))) (start .0) (end .0) ⌝ }
 {
     let volume = words::volume_between(rates, m, start, end);
@@ -109,14 +112,14 @@ pub fn stretch(rates: &[u64; 48], m: usize, start: Date, end: Date) -> VolumeSeg
 fn cut_inside(
     place: usize,
     size: Volume,
-    rates: &[u64; 48],
+    rates: &[u64; SEGMENTS],
     m: usize,
     room: &mut u64,
     send: Interval,
-    free: &mut [u64; 192],
+    free: &mut [u64; LISTED],
     count: &mut usize,
 ) -> u8
-    requires { ⌜ m ≤ 16 ⌝ ∗ ⌜ Runs (take m (volumesIn (now rates))) ⌝ ∗ ⌜ Inside (freeIn (now free) (now count)) place (size .0) ⌝ ∗ ⌜ Roomy (take m (volumesIn (now rates))) (freeIn (now free) (now count)) place (send .start .0) (send .end .0) (size .0) (now room) ⌝ ∗ ⌜ (getD (volumesIn (now free)) place zeroVolume .start .0 ≡ send .start .0 → ⊥) ⌝ }
+    requires { ⌜ m ≤ segmentsMax ⌝ ∗ ⌜ Runs (take m (volumesIn (now rates))) ⌝ ∗ ⌜ Inside (freeIn (now free) (now count)) place (size .0) ⌝ ∗ ⌜ Roomy (take m (volumesIn (now rates))) (freeIn (now free) (now count)) place (send .start .0) (send .end .0) (size .0) (now room) ⌝ ∗ ⌜ (getD (volumesIn (now free)) place zeroVolume .start .0 ≡ send .start .0 → ⊥) ⌝ }
     ensures { λ r. ⌜ r ≡ cutList (take m (volumesIn (now (rates .entry)))) (freeIn (now (free .entry)) (now (count .entry))) place (send .start .0) (send .end .0) (size .0) .number ⌝ ∗ ⌜ freeIn (now (free .exit)) (now (count .exit)) ≡ cutList (take m (volumesIn (now (rates .entry)))) (freeIn (now (free .entry)) (now (count .entry))) place (send .start .0) (send .end .0) (size .0) .list ⌝ ∗ ⌜ now (room .exit) ≡ roomOf (listed (freeIn (now (free .exit)) (now (count .exit)))) ⌝ }
 {
     told(free);
@@ -155,14 +158,14 @@ fn cut_inside(
 pub fn cut(
     place: usize,
     size: Volume,
-    rates: &[u64; 48],
+    rates: &[u64; SEGMENTS],
     m: usize,
     room: &mut u64,
     send: Interval,
-    free: &mut [u64; 192],
+    free: &mut [u64; LISTED],
     count: &mut usize,
 ) -> u8
-    requires { ⌜ m ≤ 16 ⌝ ∗ ⌜ Runs (take m (volumesIn (now rates))) ⌝ ∗ ⌜ Inside (freeIn (now free) (now count)) place (size .0) ⌝ ∗ ⌜ Roomy (take m (volumesIn (now rates))) (freeIn (now free) (now count)) place (send .start .0) (send .end .0) (size .0) (now room) ⌝ }
+    requires { ⌜ m ≤ segmentsMax ⌝ ∗ ⌜ Runs (take m (volumesIn (now rates))) ⌝ ∗ ⌜ Inside (freeIn (now free) (now count)) place (size .0) ⌝ ∗ ⌜ Roomy (take m (volumesIn (now rates))) (freeIn (now free) (now count)) place (send .start .0) (send .end .0) (size .0) (now room) ⌝ }
     ensures { λ r. ⌜ r ≡ cutList (take m (volumesIn (now (rates .entry)))) (freeIn (now (free .entry)) (now (count .entry))) place (send .start .0) (send .end .0) (size .0) .number ⌝ ∗ ⌜ freeIn (now (free .exit)) (now (count .exit)) ≡ cutList (take m (volumesIn (now (rates .entry)))) (freeIn (now (free .entry)) (now (count .entry))) place (send .start .0) (send .end .0) (size .0) .list ⌝ ∗ ⌜ now (room .exit) ≡ roomOf (listed (freeIn (now (free .exit)) (now (count .exit)))) ⌝ }
 {
     told(free);

@@ -1,12 +1,12 @@
 -- A dry run of the polynomial manager on a record that keeps its rules: it has what the search and the answer ask, and answers what the search finds.
-use Prim.Native.Nat.{ℕ, _≤_, _^_}
+use Prim.Native.Nat.{ℕ, _≤_}
 use mathlib.Core.Bool.{true, false}
 use mathlib.Core.Path.{_≡_, ap, _∙_}
 use mathlib.Core.List.{[]}
 use Rattle.units.specs.declared.Date.{Date}
 use Rattle.units.specs.declared.Interval.{Interval}
 use Rattle.units.specs.declared.Bundle.{Bundle}
-use Rattle.units.specs.Limits.{bundleOk}
+use Rattle.units.specs.Limits.{dateMax, volumeMax, segmentsMax, listedMax, bundleOk}
 use Rattle.units.specs.Answer.{refused}
 use Rattle.units.proofs.Logic.{unless-go, unless-stop}
 use Rattle.units.proofs.Loads.{Load, asked-load, load}
@@ -37,10 +37,10 @@ module _ (r : PolySeg) (at : Date) (b : Bundle) (ok : recordOk r ≡ true) where
     abbrev carried : Load b
     carried = load b (asked-load at b fits)
 
-    pub search-asks : (r .free .count ≤ 64) × (Ranged (r .polynome) (r .window)
-        × ((listOk [] (r .window .start .0) (r .window .end .0) (listed (r .free)) ≡ true) × (b .size .0 ≤ 2 ^ 38)))
+    pub search-asks : (r .free .count ≤ listedMax) × (Ranged (r .polynome) (r .window)
+        × ((listOk [] (r .window .start .0) (r .window .end .0) (listed (r .free)) ≡ true) × (b .size .0 ≤ volumeMax)))
     search-asks = (kept .few, (kept .range, (kept .rules, carried .size)))
 
     pub answer-asks : (i : ℕ) (send : Interval) → foundOf r (at .0) (b .size .0) ≡ At i send
-        → (r .«delay_count» ≤ 16) × (AllShort (delayList r) × ((send .start .0 ≤ 2 ^ 40) × (send .end .0 ≤ 2 ^ 40)))
+        → (r .«delay_count» ≤ segmentsMax) × (AllShort (delayList r) × ((send .start .0 ≤ dateMax) × (send .end .0 ≤ dateMax)))
     answer-asks i send e = (kept .places, (kept .short, found-dates r kept (at .0) (b .size .0) (carried .some) i send e))

@@ -1,5 +1,5 @@
 -- Each public call's promise determines its answer, and the record or the numbers that it leaves behind the references: two that meet it are equal. What the contract of a call to which a record is lent says in src/ is that promise, by computation; for the others `Post` is its reading.
-use Prim.Native.Nat.{ℕ}
+use Prim.Native.Nat.{ℕ, _*_}
 use mathlib.Core.Path.{_≡_, refl, sym, ap, _∙_}
 use mathlib.Core.Bool.{Bool}
 use mathlib.Core.List.{List}
@@ -15,6 +15,7 @@ use contract.Lifetimes.{Lfts}
 use contract.Monad.{Fun, fact}
 use denote.Ref.{RefT}
 use denote.Triple.Clauses.{AtExit}
+use Rattle.units.specs.Limits.{listedMax}
 use Rattle.units.proofs.Determined.{Determined}
 use Rattle.words.specs.Words.{volumesIn}
 use Rattle.words.proofs.Numbers.{same-numbers as same-volumes}
@@ -132,7 +133,7 @@ module _ {D X : Type 0} (left : X → D) (behind : X → List ℕ) (count : X �
   AllLeft = Determined (λ (m : D) (x : X). (m ≡ left x) × P x) × Determined (Leaves behind P) × Determined (λ (n : ℕ) (x : X). (n ≡ count x) × P x)
 
   -- the record's list is what the numbers make, and as many numbers that make the same segments are the same
-  module _ {S : Type 0} (made : List ℕ → List S) (same : (l k : List ℕ) → length l ≡ 192 → length k ≡ 192 → made l ≡ made k → l ≡ k)
+  module _ {S : Type 0} (made : List ℕ → List S) (same : (l k : List ℕ) → length l ≡ 3 * listedMax → length k ≡ 3 * listedMax → made l ≡ made k → l ≡ k)
       (segments : D → List S) (many : D → ℕ) (lists : (x : X) → made (behind x) ≡ segments (left x)) (counts : (x : X) → count x ≡ many (left x))
       (booked : D) (tells : (x : X) → P x → left x ≡ booked) where
     same-left : (x y : X) → P x → P y → left x ≡ left y
@@ -163,7 +164,7 @@ module _ (κs : Lfts 6) (a : Dens κs free-book-kept-kinds.ps) where
   free-book-kept-unique r q x y f g = f .0 ∙ sym (g .0)
 
   pub free-book-kept-left-unique : (k : ℕ) → AllLeft free-left free-numbers free-count (free-book-kept-reads.Post κs a k)
-  free-book-kept-left-unique k = all-left free-left free-numbers free-count _ volumesIn (λ l k. same-volumes l k 64) (λ m. m .free .segments) (λ m. m .free .count) (λ x. refl) (λ x. refl) _ (λ x p. p .1 .0)
+  free-book-kept-left-unique k = all-left free-left free-numbers free-count _ volumesIn (λ l k. same-volumes l k listedMax) (λ m. m .free .segments) (λ m. m .free .count) (λ x. refl) (λ x. refl) _ (λ x p. p .1 .0)
 
   -- and the room that it leaves
   pub free-book-kept-room-unique : (k : ℕ) → Determined (λ (n : ℕ) (x : FreeExit). (n ≡ x .1 .1 .1 .1 .1 .1 .1 .0 .now) × free-book-kept-reads.Post κs a k x)
@@ -187,7 +188,7 @@ module _ (κs : Lfts 5) (a : Dens κs priority-book-kept-kinds.ps) where
   priority-book-kept-unique r q x y f g = f .0 ∙ sym (g .0)
 
   pub priority-book-kept-left-unique : (k : ℕ) → AllLeft priority-left priority-numbers priority-count (priority-book-kept-reads.Post κs a k)
-  priority-book-kept-left-unique k = all-left priority-left priority-numbers priority-count _ bookingsIn (λ l k. same-bookings l k 64) (λ m. m .bookings .segments) (λ m. m .bookings .count) (λ x. refl) (λ x. refl) _ (λ x p. p .1)
+  priority-book-kept-left-unique k = all-left priority-left priority-numbers priority-count _ bookingsIn (λ l k. same-bookings l k listedMax) (λ m. m .bookings .segments) (λ m. m .bookings .count) (λ x. refl) (λ x. refl) _ (λ x p. p .1)
 
 module _ (κs : Lfts 5) (a : Dens κs polynomial-book-kept-kinds.ps) where
   abbrev PolynomialExit : Type 0
@@ -206,7 +207,7 @@ module _ (κs : Lfts 5) (a : Dens κs polynomial-book-kept-kinds.ps) where
   polynomial-book-kept-unique r q x y f g = f .0 ∙ sym (g .0)
 
   pub polynomial-book-kept-left-unique : (k : ℕ) → AllLeft polynomial-left polynomial-numbers polynomial-count (polynomial-book-kept-reads.Post κs a k)
-  polynomial-book-kept-left-unique k = all-left polynomial-left polynomial-numbers polynomial-count _ volumesIn (λ l k. same-volumes l k 64) (λ m. m .free .segments) (λ m. m .free .count) (λ x. refl) (λ x. refl) _ (λ x p. p .1)
+  polynomial-book-kept-left-unique k = all-left polynomial-left polynomial-numbers polynomial-count _ volumesIn (λ l k. same-volumes l k listedMax) (λ m. m .free .segments) (λ m. m .free .count) (λ x. refl) (λ x. refl) _ (λ x p. p .1)
 
 -- a lent record that is asked: the answer
 abbrev Answered : {X : Type 0} → X → X → Type 0

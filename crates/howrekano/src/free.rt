@@ -9,6 +9,8 @@ use units::Interval;
 use units::Offer;
 use units::TxData;
 use units::Volume;
+use words::LISTED;
+use words::SEGMENTS;
 ghost use mathlib.Core.Path.{_≡_};
 ghost use mathlib.Core.Bool.{true};
 ghost use Rattle.seg.specs.Open.{openOf};
@@ -91,11 +93,11 @@ pub extern "C" fn hk_free_book(m: &mut FreeVolume, at: Date, bundle: Bundle, dat
 // What a dry run finds on the record that these numbers make.
 fn chosen(
     window: Interval,
-    rates: &[u64; 48],
+    rates: &[u64; SEGMENTS],
     rate_count: usize,
-    delays: &[u64; 48],
+    delays: &[u64; SEGMENTS],
     delay_count: usize,
-    free: &[u64; 192],
+    free: &[u64; LISTED],
     count: usize,
     at: Date,
     bundle: Bundle,
@@ -128,11 +130,11 @@ fn chosen(
 #[no_mangle]
 pub extern "C" fn hk_free_dry_run_kept(
     window: Interval,
-    rates: &[u64; 48],
+    rates: &[u64; SEGMENTS],
     rate_count: usize,
-    delays: &[u64; 48],
+    delays: &[u64; SEGMENTS],
     delay_count: usize,
-    free: &[u64; 192],
+    free: &[u64; LISTED],
     count: usize,
     at: Date,
     bundle: Bundle,
@@ -161,11 +163,11 @@ pub extern "C" fn hk_free_dry_run_kept(
 #[no_mangle]
 pub extern "C" fn hk_free_book_kept(
     window: Interval,
-    rates: &[u64; 48],
+    rates: &[u64; SEGMENTS],
     rate_count: usize,
-    delays: &[u64; 48],
+    delays: &[u64; SEGMENTS],
     delay_count: usize,
-    free: &mut [u64; 192],
+    free: &mut [u64; LISTED],
     count: &mut usize,
     room: &mut u64,
     at: Date,

@@ -10,6 +10,8 @@ use units::Interval;
 use units::Offer;
 use units::TxData;
 use units::Volume;
+use words::LISTED;
+use words::SEGMENTS;
 ghost use mathlib.Core.Path.{_≡_};
 ghost use mathlib.Core.Bool.{true};
 ghost use Rattle.poly_seg.specs.Open.{openOf};
@@ -88,9 +90,9 @@ fn polynome_at(coefficients: &[i64; 4], offset: Date) -> Polynome
 fn chosen(
     window: Interval,
     polynome: Polynome,
-    delays: &[u64; 48],
+    delays: &[u64; SEGMENTS],
     delay_count: usize,
-    free: &[u64; 192],
+    free: &[u64; LISTED],
     count: usize,
     at: Date,
     bundle: Bundle,
@@ -118,9 +120,9 @@ pub extern "C" fn hk_polynomial_dry_run_kept(
     window: Interval,
     coefficients: &[i64; 4],
     offset: Date,
-    delays: &[u64; 48],
+    delays: &[u64; SEGMENTS],
     delay_count: usize,
-    free: &[u64; 192],
+    free: &[u64; LISTED],
     count: usize,
     at: Date,
     bundle: Bundle,
@@ -152,9 +154,9 @@ pub extern "C" fn hk_polynomial_book_kept(
     window: Interval,
     coefficients: &[i64; 4],
     offset: Date,
-    delays: &[u64; 48],
+    delays: &[u64; SEGMENTS],
     delay_count: usize,
-    free: &mut [u64; 192],
+    free: &mut [u64; LISTED],
     count: &mut usize,
     at: Date,
     bundle: Bundle,

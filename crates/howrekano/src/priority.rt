@@ -8,6 +8,8 @@ use units::Date;
 use units::Interval;
 use units::Offer;
 use units::TxData;
+use words::LISTED;
+use words::SEGMENTS;
 ghost use mathlib.Core.Path.{_≡_};
 ghost use mathlib.Core.Bool.{true};
 ghost use Rattle.pseg.specs.Open.{openOf};
@@ -75,11 +77,11 @@ pub extern "C" fn hk_priority_book(
 #[no_mangle]
 pub extern "C" fn hk_priority_dry_run_kept(
     window: Interval,
-    rates: &[u64; 48],
+    rates: &[u64; SEGMENTS],
     rate_count: usize,
-    delays: &[u64; 48],
+    delays: &[u64; SEGMENTS],
     delay_count: usize,
-    bookings: &[u64; 192],
+    bookings: &[u64; LISTED],
     count: usize,
     at: Date,
     bundle: Bundle,
@@ -111,11 +113,11 @@ pub extern "C" fn hk_priority_dry_run_kept(
 #[no_mangle]
 pub extern "C" fn hk_priority_book_kept(
     window: Interval,
-    rates: &[u64; 48],
+    rates: &[u64; SEGMENTS],
     rate_count: usize,
-    delays: &[u64; 48],
+    delays: &[u64; SEGMENTS],
     delay_count: usize,
-    bookings: &mut [u64; 192],
+    bookings: &mut [u64; LISTED],
     count: &mut usize,
     at: Date,
     bundle: Bundle,

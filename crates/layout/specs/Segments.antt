@@ -1,6 +1,7 @@
 -- 01, "The trace program": (start, end, rate)s and (start, end, delay)s, 24 bytes each.
 use Prim.Native.Nat.{ℕ, zero, suc, _+_, min}
 use mathlib.Core.List.{List, [], _∷_}
+use Rattle.units.specs.Limits.{segmentsMax}
 use Rattle.units.specs.Arrays.{padded}
 use Rattle.segmentation.specs.declared.RateSegment.{RateSegment}
 use Rattle.segmentation.specs.declared.DelaySegment.{DelaySegment}
@@ -28,8 +29,8 @@ noDelay = record { start = record { 0 = 0 }; end = record { 0 = 0 }; delay = rec
 
 -- the n rate segments from a place on; of more than 16 the first 16, since the opening refuses the count
 unfoldable pub ratesAt : List ℕ → ℕ → ℕ → List RateSegment
-ratesAt line at n = padded 16 noRate (rows (rateAt line) 24 at (min 16 n))
+ratesAt line at n = padded segmentsMax noRate (rows (rateAt line) 24 at (min segmentsMax n))
 
 -- the n delay segments from a place on, likewise
 unfoldable pub delaysAt : List ℕ → ℕ → ℕ → List DelaySegment
-delaysAt line at n = padded 16 noDelay (rows (delayAt line) 24 at (min 16 n))
+delaysAt line at n = padded segmentsMax noDelay (rows (delayAt line) 24 at (min segmentsMax n))

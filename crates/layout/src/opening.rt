@@ -10,6 +10,7 @@ use units::Interval;
 use units::Rate;
 ghost use mathlib.Core.Path.{_≡_};
 ghost use Prim.Native.Nat.{_<_, _^_, min};
+ghost use Rattle.units.specs.Limits.{segmentsMax};
 ghost use Rattle.layout.specs.Fields.{hasBytes};
 ghost use Rattle.layout.specs.Segments.{rateAt, delayAt, ratesAt, delaysAt};
 ghost use Rattle.layout.specs.Opening.{openingLength, openingOf};
@@ -54,9 +55,13 @@ fn delay_at(line: &[u8], at: usize) -> DelaySegment
 
 // As many as an opening is given places for; it refuses a higher count.
 fn kept(n: usize) -> usize
-    ensures { λ r. ⌜ r ≡ min 16 n ⌝ }
+    ensures { λ r. ⌜ r ≡ min segmentsMax n ⌝ }
 {
-    if n < 16 { n } else { 16 }
+    if n < Interval::SEGMENTS_MAX {
+        n
+    } else {
+        Interval::SEGMENTS_MAX
+    }
 }
 
 pub fn rates_at(line: &[u8], at: usize, n: usize) -> [RateSegment; RateSegment::COUNT_MAX]

@@ -8,6 +8,7 @@ use native.Mathlib.Omega.{arith}
 use lib.Dec.{lit<}
 use lib.ListN.{take, drop, getD}
 use borrow.Author.Tests.{leb-true, le-leb, eqb-true}
+use Rattle.units.specs.Limits.{lengthMax, volumeMax, rateMax, delayMax}
 use Rattle.units.specs.declared.Volume.{Volume}
 use Rattle.units.specs.declared.Interval.{Interval}
 use Rattle.units.specs.Logic.{pick, allOf}
@@ -15,20 +16,20 @@ use Rattle.units.proofs.Logic.{both-fst, both-snd, all-go, all-none, all-head, 
 use Rattle.units.proofs.Windows.{Window, window}
 use Rattle.legacy.specs.declared.Flags.{Flags}
 use Rattle.legacy.specs.declared.Queue.{Queue}
-use Rattle.legacy.specs.Open.{atMost, isZero, rateOk, budgetsOk}
-use Rattle.legacy.specs.Record.{recordOk}
+use Rattle.legacy.specs.Open.{classesMax, budgetMax, atMost, isZero, rateOk, budgetsOk}
+use Rattle.legacy.specs.Record.{queueMax, recordOk}
 use Rattle.legacy.proofs.Rules.{record-tests}
 
 pub record Sound (r : Queue) : Type 0 where
   pub window : Window (r .window)
   pub some : 1 ≤ r .rate .0
-  pub slow : r .rate .0 ≤ 2 ^ 38
-  pub total : (r .window .end .0 - r .window .start .0) * r .rate .0 ≤ 2 ^ 38
-  pub delay : r .delay .0 ≤ 2 ^ 40
+  pub slow : r .rate .0 ≤ rateMax
+  pub total : (r .window .end .0 - r .window .start .0) * r .rate .0 ≤ volumeMax
+  pub delay : r .delay .0 ≤ delayMax
   pub one : 1 ≤ r .classes
-  pub eight : r .classes ≤ 8
-  pub queue : (k : ℕ) → getD (r .queues) k (record { 0 = 0 }) .0 ≤ 2 ^ 41
-  pub budget : (k : ℕ) → getD (r .budgets) k (record { 0 = 0 }) .0 ≤ 2 ^ 38
+  pub eight : r .classes ≤ classesMax
+  pub queue : (k : ℕ) → getD (r .queues) k (record { 0 = 0 }) .0 ≤ queueMax
+  pub budget : (k : ℕ) → getD (r .budgets) k (record { 0 = 0 }) .0 ≤ budgetMax
 
 -- the first n at most m, and zero from there on: at most m at every place
 pub everywhere : (m n : ℕ) (l : List Volume) (k : ℕ) → allOf (atMost m) (take n l) ≡ true → allOf isZero (drop n l) ≡ true → getD l k (record { 0 = 0 }) .0 ≤ m
@@ -45,13 +46,13 @@ first-low m [] h (suc j) = all-none (atMost m)
 first-low m (v ∷ l) h (suc j) = all-go (atMost m) v (take j l) (le-leb (v .0) m (h 0)) ∙ first-low m l (λ k. h (suc k)) j
 
 -- a length times a rate fits in 64 bits
-pub product-fits : {a b : ℕ} → a ≤ 2 ^ 24 → b ≤ 2 ^ 38 → a * b < 2 ^ 64
+pub product-fits : {a b : ℕ} → a ≤ lengthMax → b ≤ rateMax → a * b < 2 ^ 64
 product-fits ha hb = lt-of-le-of-lt (mul-le-mul ha hb) (lit< tt)
 
 pub record Rated (w : Interval) (r : ℕ) : Type 0 where
   pub some : 1 ≤ r
-  pub slow : r ≤ 2 ^ 38
-  pub total : (w .end .0 - w .start .0) * r ≤ 2 ^ 38
+  pub slow : r ≤ rateMax
+  pub total : (w .end .0 - w .start .0) * r ≤ volumeMax
 
 pub rated : (w : Interval) (r : ℕ) → rateOk w r ≡ true → Rated w r
 unfolding rateOk
@@ -61,8 +62,8 @@ rated w r e =
 
 pub record Budgeted (n : ℕ) (l : List Volume) : Type 0 where
   pub one : 1 ≤ n
-  pub eight : n ≤ 8
-  pub budget : (k : ℕ) → getD l k (record { 0 = 0 }) .0 ≤ 2 ^ 38
+  pub eight : n ≤ classesMax
+  pub budget : (k : ℕ) → getD l k (record { 0 = 0 }) .0 ≤ budgetMax
 
 pub budgeted : (n : ℕ) (flags : Flags) (l : List Volume) → budgetsOk n flags l ≡ true → Budgeted n l
 unfolding budgetsOk
@@ -72,7 +73,7 @@ budgeted n flags l e =
     record {
       one = leb-true _ _ (both-fst _ _ e);
       eight = leb-true _ _ (both-fst _ _ rest);
-      budget = λ k. everywhere (2 ^ 38) (pick (flags .budgeted) n 0) l k (both-fst _ _ places) (both-snd _ _ places);
+      budget = λ k. everywhere budgetMax (pick (flags .budgeted) n 0) l k (both-fst _ _ places) (both-snd _ _ places);
     }
 
 pub sound : (r : Queue) → recordOk r ≡ true → Sound r
@@ -92,6 +93,6 @@ sound r e =
       delay = leb-true _ _ (both-fst _ _ e3);
       one = budgets .one;
       eight = budgets .eight;
-      queue = λ k. everywhere (2 ^ 41) (r .classes) (r .queues) k (both-fst _ _ e5) (both-snd _ _ e5);
+      queue = λ k. everywhere queueMax (r .classes) (r .queues) k (both-fst _ _ e5) (both-snd _ _ e5);
       budget = budgets .budget;
     }

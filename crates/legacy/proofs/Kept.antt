@@ -21,7 +21,7 @@ use Rattle.legacy.specs.declared.Flags.{Flags}
 use Rattle.legacy.specs.declared.Queue.{Queue}
 use Rattle.legacy.specs.declared.Opened.{Opened}
 use Rattle.legacy.specs.declared.Booked.{Booked}
-use Rattle.legacy.specs.Open.{atMost, atLeast, isZero, zeros, refusedOpening, openOf}
+use Rattle.legacy.specs.Open.{classesMax, atMost, atLeast, isZero, zeros, refusedOpening, openOf}
 use Rattle.legacy.specs.Record.{queueMax, recordOk}
 use Rattle.legacy.specs.Queueing.{withQueues, reached, roomFor, enqueueAt, dequeueAt, enqueueOf, dequeueOf}
 use Rattle.legacy.specs.Book.{bookOf}
@@ -39,7 +39,7 @@ module _ (w : Interval) (r : Rate) (d : Delay) (n : ℕ) (flags : Flags) (budget
   unfolding recordOk
   fresh-ok e =
       both-yes _ _ (eq-eqb _ _ e)
-      (both-yes _ _ (all-take (atMost queueMax) n zeros (all-replicate (atMost queueMax) 8 _ refl)) (all-drop isZero n zeros (all-replicate isZero 8 _ refl)))
+      (both-yes _ _ (all-take (atMost queueMax) n zeros (all-replicate (atMost queueMax) classesMax _ refl)) (all-drop isZero n zeros (all-replicate isZero classesMax _ refl)))
 
   pub opened-ok : openOf w r d n flags budgets .number ≡ 0 → recordOk (openOf w r d n flags budgets .manager) ≡ true
   opened-ok e = ap recordOk (opened-is e) ∙ fresh-ok e

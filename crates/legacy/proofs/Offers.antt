@@ -1,5 +1,5 @@
 -- The offer, test by test, from what the code has worked out: the queue, the budget, the start and the two arrivals.
-use Prim.Native.Nat.{ℕ, _+_, _/_, _<_, _≤_, _^_}
+use Prim.Native.Nat.{ℕ, _+_, _/_, _<_, _≤_}
 use mathlib.Core.Bool.{true}
 use mathlib.Core.Path.{_≡_, refl, ap, _∙_}
 use native.Mathlib.Nat.{div-le-self}
@@ -10,26 +10,27 @@ use Rattle.units.specs.declared.Date.{Date}
 use Rattle.units.specs.declared.Volume.{Volume}
 use Rattle.units.specs.declared.Bundle.{Bundle}
 use Rattle.units.specs.declared.Offer.{Offer}
-use Rattle.units.specs.Limits.{bundleOk}
+use Rattle.units.specs.Limits.{dateMax, bundleOk}
 use Rattle.units.specs.Answer.{refused, offered}
 use Rattle.units.proofs.Logic.{pick-keeps, unless-keeps, unless-go, unless-stop}
 use Rattle.legacy.specs.declared.Queue.{Queue}
-use Rattle.legacy.specs.Record.{recordOk}
+use Rattle.legacy.specs.Record.{queueMax, recordOk}
 use Rattle.legacy.specs.DryRun.{classOf, queueAt, budgetAt, startAt, answerAt, dryRunOf}
 use Rattle.legacy.proofs.Facts.{sound}
+use Rattle.legacy.specs.Open.{budgetMax}
 
 -- the start is not far past the limit of dates
-start-low : (r : Queue) (t q : ℕ) → r .window .start .0 ≤ 2 ^ 40 → t ≤ 2 ^ 40 → q ≤ 2 ^ 41 → startAt r t q ≤ 2 ^ 42
+start-low : (r : Queue) (t q : ℕ) → r .window .start .0 ≤ dateMax → t ≤ dateMax → q ≤ queueMax → startAt r t q ≤ dateMax + queueMax
 start-low r t q h k m =
     let w : q / r .rate .0 ≤ q = div-le-self q (r .rate .0) in
-    let P : ℕ → Type 0 = λ (n : ℕ). n ≤ 2 ^ 42 in
+    let P : ℕ → Type 0 = λ (n : ℕ). n ≤ dateMax + queueMax in
     pick-keeps P (r .flags .«add_delay») _ _ (λ _. pick-keeps P (r .flags .«self_update») _ _ (λ _. omega arith) (λ _. omega arith)) (λ _. omega arith)
 
-pub begun : (r : Queue) (t q : ℕ) (s : Date) → recordOk r ≡ true → (t ≤ 2 ^ 40) × (q ≤ 2 ^ 41) → s .0 ≡ startAt r t q
-    → (s .0 ≡ startAt r t q) × (s .0 ≤ 2 ^ 42)
+pub begun : (r : Queue) (t q : ℕ) (s : Date) → recordOk r ≡ true → (t ≤ dateMax) × (q ≤ queueMax) → s .0 ≡ startAt r t q
+    → (s .0 ≡ startAt r t q) × (s .0 ≤ dateMax + queueMax)
 begun r t q s ok h e =
     let w = sound r ok .window in
-    let low : startAt r t q ≤ 2 ^ 42 = start-low r t q (omega arith) (h .0) (h .1) in
+    let low : startAt r t q ≤ dateMax + queueMax = start-low r t q (omega arith) (h .0) (h .1) in
     (e, omega (arith, e, low))
 
 -- four dates with these numbers are the offer
@@ -46,10 +47,10 @@ offer-room r t b =
     (λ _ e. absurd (omega arith)) (λ h _. leb-true _ _ h)
 
 -- and a budget is at most 2^38
-pub budget-low : (r : Queue) (p : ℕ) → recordOk r ≡ true → budgetAt r p ≤ 2 ^ 38
+pub budget-low : (r : Queue) (p : ℕ) → recordOk r ≡ true → budgetAt r p ≤ budgetMax
 budget-low r p ok =
     let s = sound r ok in
-    pick-keeps (λ (n : ℕ). n ≤ 2 ^ 38) (r .flags .budgeted) _ _ (λ _. s .budget (classOf (r .classes) p)) (λ _. s .total)
+    pick-keeps (λ (n : ℕ). n ≤ budgetMax) (r .flags .budgeted) _ _ (λ _. s .budget (classOf (r .classes) p)) (λ _. s .total)
 
 module _ (r : Queue) (t : ℕ) (b : Bundle) (queue budget : Volume)
     (q : queue .0 ≡ queueAt r (b .priority .0)) (g : budget .0 ≡ budgetAt r (b .priority .0)) where

@@ -1,5 +1,5 @@
 -- From a fresh opening, by whatever calls, no booking answers 13: under self-update each queue is at most the next one and 2^38 more.
-use Prim.Native.Nat.{ℕ, zero, suc, _+_, _-_, _*_, _<_, _≤_, _^_}
+use Prim.Native.Nat.{ℕ, zero, suc, _+_, _-_, _*_, _<_, _≤_}
 use mathlib.Core.Bool.{true, false}
 use mathlib.Core.Path.{_≡_, refl, sym, ap, _∙_}
 use mathlib.Core.List.{List, [], _∷_}
@@ -22,8 +22,8 @@ use Rattle.units.proofs.Logic.{no-both, both-fst, unless-go, all-go, all-none}
 use Rattle.legacy.specs.declared.Flags.{Flags}
 use Rattle.legacy.specs.declared.Queue.{Queue}
 use Rattle.legacy.specs.declared.Booked.{Booked}
-use Rattle.legacy.specs.Open.{rateOk, budgetsOk, openOf}
-use Rattle.legacy.specs.Record.{recordOk}
+use Rattle.legacy.specs.Open.{classesMax, budgetMax, rateOk, budgetsOk, openOf}
+use Rattle.legacy.specs.Record.{queueMax, recordOk}
 use Rattle.legacy.specs.DryRun.{classOf, queueAt, answerAt, dryRunOf}
 use Rattle.legacy.specs.Queueing.{addTo, refusedQueueing, withQueues, reached, roomFor, enqueueAt, enqueueOf, dequeueOf}
 use Rattle.legacy.specs.Book.{bookOf}
@@ -40,26 +40,26 @@ top l = getD l 0 (record { 0 = 0 }) .0
 -- each queue is at most the next class's and 2^38 more
 unfoldable pub Steps : List Volume → Type 0
 Steps [] = Unit {0}
-Steps (q ∷ l) = (q .0 ≤ top l + 2 ^ 38) × Steps l
+Steps (q ∷ l) = (q .0 ≤ top l + budgetMax) × Steps l
 
 -- a size that class k has room for: the first class is below k + 1 times 2^38
-top-low : (k : ℕ) (l : List Volume) (v : ℕ) → Steps l → getD l k (record { 0 = 0 }) .0 + v ≤ 2 ^ 38 → top l + v ≤ (k + 1) * 2 ^ 38
+top-low : (k : ℕ) (l : List Volume) (v : ℕ) → Steps l → getD l k (record { 0 = 0 }) .0 + v ≤ budgetMax → top l + v ≤ (k + 1) * budgetMax
 unfolding Steps
 top-low zero l v s h = omega arith
 top-low (suc k) [] v s h = omega arith
 top-low (suc k) (q ∷ l) v s h = omega (arith, s .0, top-low k l v (s .1) h)
 
 -- so there is room in each
-room-all : (k : ℕ) (l : List Volume) (v : ℕ) → k < 8 → Steps l → getD l k (record { 0 = 0 }) .0 + v ≤ 2 ^ 38 → allOf (roomFor v) (take (suc k) l) ≡ true
+room-all : (k : ℕ) (l : List Volume) (v : ℕ) → k < classesMax → Steps l → getD l k (record { 0 = 0 }) .0 + v ≤ budgetMax → allOf (roomFor v) (take (suc k) l) ≡ true
 unfolding Steps
 room-all k [] v b s h = all-none (roomFor v)
-room-all zero (q ∷ l) v b s h = all-go (roomFor v) q [] (le-leb (q .0 + v) (2 ^ 41) (omega arith)) ∙ all-none (roomFor v)
+room-all zero (q ∷ l) v b s h = all-go (roomFor v) q [] (le-leb (q .0 + v) queueMax (omega arith)) ∙ all-none (roomFor v)
 room-all (suc k) (q ∷ l) v b s h =
-    let low : q .0 + v ≤ (suc k + 1) * 2 ^ 38 = top-low (suc k) (q ∷ l) v s h in
-    all-go (roomFor v) q (take (suc k) l) (le-leb (q .0 + v) (2 ^ 41) (omega arith)) ∙ room-all k l v (omega arith) (s .1) h
+    let low : q .0 + v ≤ (suc k + 1) * budgetMax = top-low (suc k) (q ∷ l) v s h in
+    all-go (roomFor v) q (take (suc k) l) (le-leb (q .0 + v) queueMax (omega arith)) ∙ room-all k l v (omega arith) (s .1) h
 
 -- and the steps are kept
-steps-kept : (k : ℕ) (l : List Volume) (v : ℕ) → k < length l → Steps l → getD l k (record { 0 = 0 }) .0 + v ≤ 2 ^ 38 → Steps (addTo (suc k) v l)
+steps-kept : (k : ℕ) (l : List Volume) (v : ℕ) → k < length l → Steps l → getD l k (record { 0 = 0 }) .0 + v ≤ budgetMax → Steps (addTo (suc k) v l)
 unfolding Steps addTo
 steps-kept k [] v b s h = tt
 steps-kept zero (q ∷ l) v b s h = (omega arith, s .1)
@@ -67,7 +67,7 @@ steps-kept (suc k) (q ∷ []) v b s h = absurd (omega arith)
 steps-kept (suc k) (q ∷ p ∷ l) v b s h = (omega arith, steps-kept k (p ∷ l) v (omega arith) (s .1) h)
 
 -- a booking that meets its dry run has room in its class
-class-room : (r : Queue) (at : Date) (b : Bundle) (d : TxData) → Offered r at b d → queueAt r (b .priority .0) + b .size .0 ≤ 2 ^ 38
+class-room : (r : Queue) (at : Date) (b : Bundle) (d : TxData) → Offered r at b d → queueAt r (b .priority .0) + b .size .0 ≤ budgetMax
 unfolding offers
 class-room r at b d o =
     let done : dryRunOf r at b .number ≡ 0 = eqb-true _ _ (both-fst _ _ (o .same)) in
@@ -84,7 +84,7 @@ pub data Reached : Queue → Type 0 where
 
 -- what holds of them
 pub record Stepped (r : Queue) : Type 0 where
-  pub size : length (r .queues) ≡ 8
+  pub size : length (r .queues) ≡ classesMax
   pub steps : r .flags .«self_update» ≡ true → Steps (r .queues)
 
 abbrev Hands : Booked → Type 0
@@ -101,7 +101,7 @@ module _ (r : Queue) (b : Bundle) (s : Stepped r) where
 
   -- under self-update: a booking that meets its dry run
   module _ (at : Date) (d : TxData) (o : Offered r at b d) (auto : r .flags .«self_update» ≡ true) where
-    class-low : class < 8
+    class-low : class < classesMax
     class-low = let k = sound r (o .kept) in omega arith
 
     pub put-done : enqueueAt r b .number ≡ 0
@@ -138,19 +138,19 @@ module _ (r : Queue) (b : Bundle) (s : Stepped r) where
 
 pub stepped : (r : Queue) → Reached r → Stepped r
 stepped _ (opened w r d n flags budgets e) =
-    rw (opened-is w r d n flags budgets e) (record { size = refl; steps = λ _. zero-steps 8 })
+    rw (opened-is w r d n flags budgets e) (record { size = refl; steps = λ _. zero-steps classesMax })
 stepped _ (booked r at b d q) = book-steps r b (stepped r q) at d
 stepped _ (enqueued r b q) = enqueue-steps r b (stepped r q)
 stepped _ (dequeued r b q) = dequeue-steps r b (stepped r q)
 
 -- so queue c is at most (8 - c) times 2^38, the first at most 2^41
-steps-low : (l : List Volume) (c : ℕ) → Steps l → getD l c (record { 0 = 0 }) .0 ≤ (length l - c) * 2 ^ 38
+steps-low : (l : List Volume) (c : ℕ) → Steps l → getD l c (record { 0 = 0 }) .0 ≤ (length l - c) * budgetMax
 unfolding Steps
 steps-low [] c s = omega arith
 steps-low (q ∷ l) zero s = omega (arith, s .0, steps-low l 0 (s .1))
 steps-low (q ∷ l) (suc c) s = omega (arith, steps-low l c (s .1))
 
-pub queue-low : (r : Queue) → Reached r → r .flags .«self_update» ≡ true → (c : ℕ) → getD (r .queues) c (record { 0 = 0 }) .0 ≤ (8 - c) * 2 ^ 38
+pub queue-low : (r : Queue) → Reached r → r .flags .«self_update» ≡ true → (c : ℕ) → getD (r .queues) c (record { 0 = 0 }) .0 ≤ (classesMax - c) * budgetMax
 queue-low r q auto c =
     let s = stepped r q in
     rw (s .size) at (steps-low (r .queues) c (s .steps auto))
@@ -169,8 +169,8 @@ full =
       delay = record { 0 = 2 };
       classes = 2;
       flags = record { «add_delay» = false; «self_update» = true; budgeted = false };
-      queues = record { 0 = 2 ^ 41 } ∷ replicate 7 (record { 0 = 0 });
-      budgets = replicate 8 (record { 0 = 0 });
+      queues = record { 0 = queueMax } ∷ replicate 7 (record { 0 = 0 });
+      budgets = replicate classesMax (record { 0 = 0 });
     }
 
 abbrev load : Bundle

@@ -1,5 +1,5 @@
 -- The tests of the opening and of the record, one by one.
-use Prim.Native.Nat.{ℕ, _≤_, _^_}
+use Prim.Native.Nat.{ℕ, _≤_}
 use mathlib.Core.Bool.{Bool, true, false}
 use mathlib.Core.Path.{_≡_, refl, ap, _∙_}
 use mathlib.Core.List.{List}
@@ -17,7 +17,7 @@ use Rattle.units.proofs.Choice.{both-assoc, done-unless}
 use Rattle.legacy.specs.declared.Flags.{Flags}
 use Rattle.legacy.specs.declared.Queue.{Queue}
 use Rattle.legacy.specs.declared.Opened.{Opened}
-use Rattle.legacy.specs.Open.{atMost, isZero, rateOk, budgetsOk, openOf}
+use Rattle.legacy.specs.Open.{classesMax, budgetMax, atMost, isZero, rateOk, budgetsOk, openOf}
 use Rattle.legacy.specs.Record.{queueMax, recordOk}
 
 module _ (w : Interval) (r : Rate) (d : Delay) (n : ℕ) (flags : Flags) (budgets : List Volume) where
@@ -61,7 +61,7 @@ module _ (r : Queue) where
         record-queues h4 = record-tests r ∙ both-go _ _ h1 ∙ both-go _ _ h2 ∙ both-go _ _ h3 ∙ both-go _ _ h4
 
 -- the budgets, with the number of places that hold one
-module _ (n : ℕ) (flags : Flags) (l : List Volume) (used : ℕ) (is : used ≡ pick (flags .budgeted) n 0) (one : 1 ≤ n) (eight : n ≤ 8) where
-  pub budgets-are : budgetsOk n flags l ≡ both (allOf (atMost (2 ^ 38)) (take used l)) (allOf isZero (drop used l))
+module _ (n : ℕ) (flags : Flags) (l : List Volume) (used : ℕ) (is : used ≡ pick (flags .budgeted) n 0) (one : 1 ≤ n) (eight : n ≤ classesMax) where
+  pub budgets-are : budgetsOk n flags l ≡ both (allOf (atMost budgetMax) (take used l)) (allOf isZero (drop used l))
   unfolding budgetsOk
   budgets-are = both-go _ _ (le-leb _ _ one) ∙ both-go _ _ (le-leb _ _ eight) ∙ rw is

@@ -1,5 +1,5 @@
 -- 01, "Numbers" and "Refusal numbers", the queue manager's opening: 3, 6, 5, 14 in this order; all queues begin at zero.
-use Prim.Native.Nat.{ℕ, _-_, _*_, _^_}
+use Prim.Native.Nat.{ℕ, _-_, _*_}
 use mathlib.Core.Bool.{Bool, false}
 use mathlib.Core.List.{List}
 use lib.Dec.{leb, eqb}
@@ -15,6 +15,13 @@ use Rattle.legacy.specs.declared.Flags.{Flags}
 use Rattle.legacy.specs.declared.Queue.{Queue}
 use Rattle.legacy.specs.declared.Opened.{Opened}
 
+-- 8 queue classes; a budget is a volume, 0 to 2^38
+abbrev pub classesMax : ℕ
+classesMax = 8
+
+abbrev pub budgetMax : ℕ
+budgetMax = volumeMax
+
 abbrev pub atMost : ℕ → Volume → Bool
 atMost most v = leb (v .0) most
 
@@ -25,7 +32,7 @@ abbrev pub isZero : Volume → Bool
 isZero v = eqb (v .0) 0
 
 abbrev pub zeros : List Volume
-zeros = replicate 8 (record { 0 = 0 })
+zeros = replicate classesMax (record { 0 = 0 })
 
 -- refusal 6: the rate 1 to 2^38, length x rate at most 2^38
 unfoldable pub rateOk : Interval → ℕ → Bool
@@ -36,7 +43,7 @@ rateOk w r =
 unfoldable pub budgetsOk : ℕ → Flags → List Volume → Bool
 budgetsOk n flags l =
     let used = pick (flags .budgeted) n 0 in
-    both (leb 1 n) (both (leb n 8) (both (allOf (atMost (2 ^ 38)) (take used l)) (allOf isZero (drop used l))))
+    both (leb 1 n) (both (leb n classesMax) (both (allOf (atMost budgetMax) (take used l)) (allOf isZero (drop used l))))
 
 -- a refused opening returns an all-zero record
 abbrev pub refusedOpening : ℕ → Opened

@@ -1,15 +1,15 @@
 -- 01, "Records", the queue record: all that the opening tests holds, queues 0 to 2^41, unused places zero.
-use Prim.Native.Nat.{ℕ, _^_}
+use Prim.Native.Nat.{ℕ, _*_}
 use mathlib.Core.Bool.{Bool}
 use lib.Dec.{eqb}
 use lib.ListN.{take, drop}
 use Rattle.units.specs.Logic.{both, allOf}
 use Rattle.legacy.specs.declared.Queue.{Queue}
-use Rattle.legacy.specs.Open.{atMost, isZero, openOf}
+use Rattle.legacy.specs.Open.{classesMax, budgetMax, atMost, isZero, openOf}
 
--- the most that a queue holds
+-- the most that a queue holds, 2^41: as much as the budgets of all classes
 abbrev pub queueMax : ℕ
-queueMax = 2 ^ 41
+queueMax = classesMax * budgetMax
 
 -- an opening with the record's own figures is done, and its queues are inside their limits, zero past the class count
 unfoldable pub recordOk : Queue → Bool

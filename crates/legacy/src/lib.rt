@@ -10,10 +10,10 @@ use units::TxData;
 use units::Volume;
 ghost use mathlib.Core.Path.{_≡_};
 ghost use mathlib.Core.Bool.{true};
-ghost use Prim.Native.Nat.{_<_, _≤_, _^_};
-ghost use Rattle.units.specs.Limits.{windowOk};
-ghost use Rattle.legacy.specs.Open.{openOf, refusedOpening, rateOk, budgetsOk};
-ghost use Rattle.legacy.specs.Record.{recordOk};
+ghost use Prim.Native.Nat.{_+_, _<_, _≤_};
+ghost use Rattle.units.specs.Limits.{dateMax, volumeMax, windowOk};
+ghost use Rattle.legacy.specs.Open.{budgetMax, openOf, refusedOpening, rateOk, budgetsOk};
+ghost use Rattle.legacy.specs.Record.{queueMax, recordOk};
 ghost use Rattle.legacy.specs.DryRun.{dryRunOf, classOf, queueAt, budgetAt, startAt, answerAt};
 ghost use Rattle.legacy.specs.Queueing.{refusedQueueing, enqueueAt, dequeueAt, enqueueOf, dequeueOf};
 ghost use Rattle.legacy.specs.Book.{bookOf};
@@ -64,9 +64,10 @@ pub struct Listing {
 impl Queue {
     pub const CLASSES_MAX: usize = 8;
 
-    pub const QUEUE_MAX: u64 = 2_199_023_255_552;
+    pub const BUDGET_MAX: u64 = Volume::MAX;
 
-    pub const BUDGET_MAX: u64 = 274_877_906_944;
+    // Eight budgets: under self-update a booking is never refused for its queue's limit.
+    pub const QUEUE_MAX: u64 = Queue::CLASSES_MAX as u64 * Queue::BUDGET_MAX;
 
     fn refused_opening(number: u8) -> Opened
         ensures { λ r. ⌜ r ≡ refusedOpening number ⌝ }
@@ -205,7 +206,7 @@ impl Queue {
     // get_queue_size
     fn queue(self, priority: Priority) -> Volume
         requires { ⌜ recordOk self ≡ true ⌝ }
-        ensures { λ r. ⌜ r .0 ≡ queueAt self (priority .0) ⌝ ∗ ⌜ r .0 ≤ 2 ^ 41 ⌝ }
+        ensures { λ r. ⌜ r .0 ≡ queueAt self (priority .0) ⌝ ∗ ⌜ r .0 ≤ queueMax ⌝ }
     {
         let k = self.class(priority);
         let queues = self.queues;
@@ -215,7 +216,7 @@ impl Queue {
     // get_budget
     fn budget(self, priority: Priority) -> Volume
         requires { ⌜ recordOk self ≡ true ⌝ }
-        ensures { λ r. ⌜ r .0 ≡ budgetAt self (priority .0) ⌝ ∗ ⌜ r .0 ≤ 2 ^ 38 ⌝ }
+        ensures { λ r. ⌜ r .0 ≡ budgetAt self (priority .0) ⌝ ∗ ⌜ r .0 ≤ budgetMax ⌝ }
     {
         let flags = self.flags;
         let budgeted = flags.budgeted;
@@ -230,8 +231,8 @@ impl Queue {
 
     // The send start: with added delay the queue before the bundle is sent first.
     fn start(self, at: Date, queue: Volume) -> Date
-        requires { ⌜ recordOk self ≡ true ⌝ ∗ ⌜ (at .0 ≤ 2 ^ 40) × (queue .0 ≤ 2 ^ 41) ⌝ }
-        ensures { λ r. ⌜ r .0 ≡ startAt self (at .0) (queue .0) ⌝ ∗ ⌜ r .0 ≤ 2 ^ 42 ⌝ }
+        requires { ⌜ recordOk self ≡ true ⌝ ∗ ⌜ (at .0 ≤ dateMax) × (queue .0 ≤ queueMax) ⌝ }
+        ensures { λ r. ⌜ r .0 ≡ startAt self (at .0) (queue .0) ⌝ ∗ ⌜ r .0 ≤ dateMax + queueMax ⌝ }
     {
         let window = self.window;
         let flags = self.flags;
@@ -251,7 +252,7 @@ impl Queue {
 
     // The offer, on a record that keeps its rules and a bundle inside its limits.
     fn answer(self, at: Date, bundle: Bundle) -> Offer
-        requires { ⌜ recordOk self ≡ true ⌝ ∗ ⌜ at .0 ≤ 2 ^ 40 ⌝ ∗ ⌜ bundle .size .0 ≤ 2 ^ 38 ⌝ }
+        requires { ⌜ recordOk self ≡ true ⌝ ∗ ⌜ at .0 ≤ dateMax ⌝ ∗ ⌜ bundle .size .0 ≤ volumeMax ⌝ }
         ensures { λ r. ⌜ r ≡ answerAt self (at .0) bundle ⌝ }
     {
         let size = bundle.size;
@@ -316,7 +317,7 @@ impl Queue {
 
     // VolumeManager::enqueue: the size is added to classes 0 to the bundle's own, all or none: 13.
     fn put(self, bundle: Bundle) -> Booked
-        requires { ⌜ recordOk self ≡ true ⌝ ∗ ⌜ bundle .size .0 ≤ 2 ^ 38 ⌝ }
+        requires { ⌜ recordOk self ≡ true ⌝ ∗ ⌜ bundle .size .0 ≤ volumeMax ⌝ }
         ensures { λ r. ⌜ r ≡ enqueueAt self bundle ⌝ }
     {
         let size = bundle.size;

@@ -3,15 +3,17 @@ use crate::Queue;
 use units::Volume;
 ghost use mathlib.Core.Path.{_≡_};
 ghost use mathlib.Core.Bool.{true};
-ghost use Prim.Native.Nat.{_≤_, _^_};
+ghost use Prim.Native.Nat.{_≤_};
 ghost use lib.ListN.{take, drop};
+ghost use Rattle.units.specs.Limits.{volumeMax};
 ghost use Rattle.units.specs.Logic.{allOf};
-ghost use Rattle.legacy.specs.Open.{atMost, atLeast, isZero};
+ghost use Rattle.legacy.specs.Open.{classesMax, atMost, atLeast, isZero};
 ghost use Rattle.legacy.specs.Queueing.{addTo, takeFrom};
+ghost use Rattle.legacy.specs.Record.{queueMax};
 
 // Is each of the first places at most so much?
 pub fn within(l: [Volume; Queue::CLASSES_MAX], count: usize, most: u64) -> bool
-    requires { ⌜ count ≤ 8 ⌝ }
+    requires { ⌜ count ≤ classesMax ⌝ }
     ensures { λ r. ⌜ r ≡ allOf (atMost most) (take count l) ⌝ }
 {
     let mut i: usize = 0;
@@ -29,7 +31,7 @@ pub fn within(l: [Volume; Queue::CLASSES_MAX], count: usize, most: u64) -> bool
 
 // Is each of the first places at least the size?
 pub fn hold(l: [Volume; Queue::CLASSES_MAX], count: usize, size: Volume) -> bool
-    requires { ⌜ count ≤ 8 ⌝ }
+    requires { ⌜ count ≤ classesMax ⌝ }
     ensures { λ r. ⌜ r ≡ allOf (atLeast (size .0)) (take count l) ⌝ }
 {
     let mut i: usize = 0;
@@ -47,7 +49,7 @@ pub fn hold(l: [Volume; Queue::CLASSES_MAX], count: usize, size: Volume) -> bool
 
 // Is nothing in the places from the count on?
 pub fn unused(l: [Volume; Queue::CLASSES_MAX], count: usize) -> bool
-    requires { ⌜ count ≤ 8 ⌝ }
+    requires { ⌜ count ≤ classesMax ⌝ }
     ensures { λ r. ⌜ r ≡ allOf isZero (drop count l) ⌝ }
 {
     let mut i = count;
@@ -69,7 +71,7 @@ pub fn add(
     count: usize,
     size: Volume,
 ) -> [Volume; Queue::CLASSES_MAX]
-    requires { ⌜ (count ≤ 8) × (size .0 ≤ 2 ^ 38) ⌝ ∗ ⌜ allOf (atMost (2 ^ 41)) (take count l) ≡ true ⌝ }
+    requires { ⌜ (count ≤ classesMax) × (size .0 ≤ volumeMax) ⌝ ∗ ⌜ allOf (atMost queueMax) (take count l) ≡ true ⌝ }
     ensures { λ r. ⌜ r ≡ addTo count (size .0) l ⌝ }
 {
     let mut a = l;
@@ -88,7 +90,7 @@ pub fn take(
     count: usize,
     size: Volume,
 ) -> [Volume; Queue::CLASSES_MAX]
-    requires { ⌜ count ≤ 8 ⌝ ∗ ⌜ allOf (atLeast (size .0)) (lib.ListN.take count l) ≡ true ⌝ }
+    requires { ⌜ count ≤ classesMax ⌝ ∗ ⌜ allOf (atLeast (size .0)) (lib.ListN.take count l) ≡ true ⌝ }
     ensures { λ r. ⌜ r ≡ takeFrom count (size .0) l ⌝ }
 {
     let mut a = l;

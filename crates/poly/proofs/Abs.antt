@@ -9,6 +9,7 @@ use lib.IntN.{ℤ, pos, negsuc, negℤ, natAbs, _+ℤ_, _-ℤ_, _*ℤ_}
 use lib.Signed.{quotZ}
 use mir.Syntax.{w64}
 use mir.Val.{SFits}
+use Rattle.poly.specs.Poly.{stepMax}
 
 pub abs-neg : (n : ℕ) → natAbs (negℤ (pos n)) ≡ n
 abs-neg zero = refl
@@ -59,5 +60,5 @@ pub abs-i64 : (z : ℤ) → SFits w64 z → natAbs z ≤ 2 ^ 63
 abs-i64 (pos n) f = omega (arith, f .sfits)
 abs-i64 (negsuc n) f = omega (arith, f .sfits)
 
-pub fits-sub : (a b : ℤ) → natAbs a ≤ 2 ^ 61 → natAbs b ≤ 2 ^ 61 → SFits w64 (a -ℤ b)
+pub fits-sub : (a b : ℤ) → natAbs a ≤ stepMax → natAbs b ≤ stepMax → SFits w64 (a -ℤ b)
 fits-sub a b ha hb = sfits _ (omega (arith, abs-add a (negℤ b), abs-negℤ b))

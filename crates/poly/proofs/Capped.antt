@@ -1,6 +1,6 @@
 -- The range rule in 64 bits: a step's magnitude, where 2^61 + 1 stands for all that is larger than 2^61.
 use mathlib.Core.Path.{_≡_, _∙_, sym, ap}
-use Prim.Native.Nat.{ℕ, _+_, _*_, _/_, _≤_, _<_, _^_, min}
+use Prim.Native.Nat.{ℕ, _+_, _*_, _/_, _≤_, _<_, min}
 use native.Mathlib.Nat.{div-one}
 use native.Mathlib.Omega.{arith}
 use borrow.Author.Tests.{leb-true, le-leb, lt-leb}
@@ -12,12 +12,12 @@ use mir.Syntax.{w64}
 use mir.Val.{SFits}
 use mir.Facts.{toZ-ofZ}
 use Rattle.units.proofs.Logic.{same-test}
-use Rattle.poly.specs.Poly.{magOf}
+use Rattle.poly.specs.Poly.{stepMax, magOf}
 use Rattle.poly.proofs.Abs.{abs-quot}
 use Rattle.poly.proofs.Back.{rd}
 
 abbrev pub capped : ℕ → ℕ
-capped n = min n (2 ^ 61 + 1)
+capped n = min n (stepMax + 1)
 
 -- a step from a value that is w, with a quotient's magnitude
 pub capped-step : (v m q r : ℕ) {w : ℕ} (c : ℤ) (k : ℕ) → v ≡ w → q ≡ natAbs (quotZ c (pos k))
@@ -27,13 +27,13 @@ capped-step v m q r c k ev eq er = er ∙ rw (ev, eq)
 
 -- the test is that of the uncapped number
 module _ (n r : ℕ) (e : r ≡ capped n) where
-  pub capped-within : r ≤ 2 ^ 61 → leb n (2 ^ 61) ≡ true
+  pub capped-within : r ≤ stepMax → leb n stepMax ≡ true
   capped-within h = le-leb n _ (omega arith)
 
-  pub capped-beyond : 2 ^ 61 < r → leb n (2 ^ 61) ≡ false
+  pub capped-beyond : stepMax < r → leb n stepMax ≡ false
   capped-beyond h = lt-leb n _ (omega arith)
 
-  pub capped-test : leb r (2 ^ 61) ≡ leb n (2 ^ 61)
+  pub capped-test : leb r stepMax ≡ leb n stepMax
   capped-test =
       same-test _ _ (λ t. capped-within (leb-true r _ t)) (λ t. le-leb r _ (omega (arith, leb-true n _ t)))
 

@@ -1,13 +1,13 @@
 -- What holds of a date of the window of a polynomial that is inside its range: its distance, its capacity and the capacity from another date fit.
 use mathlib.Core.List.{List}
-use Prim.Native.Nat.{ℕ, _≤_, _^_}
+use Prim.Native.Nat.{ℕ, _≤_}
 use native.Mathlib.Omega.{arith}
 use lib.IntN.{ℤ, pos, natAbs, _-ℤ_}
 use mir.Syntax.{w64}
 use mir.Val.{SFits}
 use Rattle.units.specs.declared.Interval.{Interval}
 use Rattle.poly.specs.declared.Polynome.{Polynome}
-use Rattle.poly.specs.Poly.{coefficient, capacityTo}
+use Rattle.poly.specs.Poly.{stepMax, coefficient, capacityTo}
 use Rattle.poly.specs.Search.{areaFrom}
 use Rattle.poly.specs.Granted.{InRange, Ranged}
 use Rattle.poly.proofs.Abs.{abs-diff, sfits, fits-sub}
@@ -34,13 +34,13 @@ module _ (p : Polynome) (w : Interval) (h : Ranged p w) (y : ℕ) (from : w .sta
       (abs-diff y (p .offset .0) (h .far) (omega (arith, h .after)) (omega (arith, h .before)))
       (h .range)
 
-  pub cap-bound : natAbs (capacityTo p y) ≤ 2 ^ 61
+  pub cap-bound : natAbs (capacityTo p y) ≤ stepMax
   unfolding capacityTo
   cap-bound = horner-bound _ _ _ _ _ range-at
 
   pub cap-fits : SFits w64 (capacityTo p y)
   cap-fits = sfits _ (omega (arith, cap-bound))
 
-  pub area-fits : (known : ℤ) → natAbs known ≤ 2 ^ 61 → SFits w64 (areaFrom p known y)
+  pub area-fits : (known : ℤ) → natAbs known ≤ stepMax → SFits w64 (areaFrom p known y)
   unfolding areaFrom
   area-fits known hk = fits-sub (capacityTo p y) known cap-bound hk

@@ -1,12 +1,12 @@
 -- Horner's steps under the range rule: no value passes the step on magnitudes, and the rule at a distance holds at each smaller one.
-use Prim.Native.Nat.{ℕ, _≤_, _^_}
+use Prim.Native.Nat.{ℕ, _≤_}
 use native.Mathlib.Nat.{le-trans, le-refl, mul-le-mul}
 use native.Mathlib.Omega.{arith}
 use lib.IntN.{ℤ, pos, natAbs, _*ℤ_}
 use lib.Signed.{quotZ}
 use mir.Syntax.{w64}
 use mir.Val.{SFits}
-use Rattle.poly.specs.Poly.{stepOf, magOf, hornerOf}
+use Rattle.poly.specs.Poly.{stepMax, stepOf, magOf, hornerOf}
 use Rattle.poly.specs.Granted.{InRange}
 use Rattle.poly.proofs.Abs.{abs-mul, abs-add, sfits}
 
@@ -21,7 +21,7 @@ unfolding magOf
 mag-mono c k hv hm = omega (arith, mul-le-mul hv hm)
 
 -- the parts of a step and the step fit
-module _ (v d c : ℤ) (k : ℕ) (h : magOf (natAbs v) (natAbs d) c k ≤ 2 ^ 61) where
+module _ (v d c : ℤ) (k : ℕ) (h : magOf (natAbs v) (natAbs d) c k ≤ stepMax) where
   pub fits-product : SFits w64 (v *ℤ d)
   unfolding magOf
   fits-product = sfits _ (omega (arith, abs-mul v d))
@@ -79,16 +79,16 @@ module _ (c0 c1 c2 c3 d : ℤ) (h : InRange c0 c1 c2 c3 (natAbs d)) where
   a0 = under (V1 c1 c2 c3 d) _ c0 1 a1
 
   -- what each further step asks
-  pub asks2 : magOf (natAbs (V3 c3 d)) (natAbs d) c2 3 ≤ 2 ^ 61
+  pub asks2 : magOf (natAbs (V3 c3 d)) (natAbs d) c2 3 ≤ stepMax
   asks2 = le-trans (grows (V3 c3 d) _ c2 3 a3) (h .r2)
 
-  pub asks1 : magOf (natAbs (V2 c2 c3 d)) (natAbs d) c1 2 ≤ 2 ^ 61
+  pub asks1 : magOf (natAbs (V2 c2 c3 d)) (natAbs d) c1 2 ≤ stepMax
   asks1 = le-trans (grows (V2 c2 c3 d) _ c1 2 a2) (h .r1)
 
-  pub asks0 : magOf (natAbs (V1 c1 c2 c3 d)) (natAbs d) c0 1 ≤ 2 ^ 61
+  pub asks0 : magOf (natAbs (V1 c1 c2 c3 d)) (natAbs d) c0 1 ≤ stepMax
   asks0 = le-trans (grows (V1 c1 c2 c3 d) _ c0 1 a1) (h .r0)
 
-  pub horner-bound : natAbs (hornerOf c0 c1 c2 c3 d *ℤ d) ≤ 2 ^ 61
+  pub horner-bound : natAbs (hornerOf c0 c1 c2 c3 d *ℤ d) ≤ stepMax
   unfolding hornerOf
   horner-bound = rw abs-mul (le-trans (mul-le-mul a0 (le-refl (natAbs d))) (h .last))
 

@@ -55,8 +55,12 @@ distance a b = (a - b) + (b - a)
 abbrev pub farOf : Polynome → Interval → ℕ
 farOf p w = max (distance (w .start .0) (p .offset .0)) (distance (w .end .0) (p .offset .0))
 
+-- the limit of a coefficient's absolute value
+abbrev pub coefficientMax : ℕ
+coefficientMax = 2 ^ 61
+
 abbrev pub coefficientOk : ℤ → Bool
-coefficientOk c = leb (natAbs c) (2 ^ 61)
+coefficientOk c = leb (natAbs c) coefficientMax
 
 -- each coefficient -2^61 to 2^61
 unfoldable pub coefficientsOk : List ℤ → Bool

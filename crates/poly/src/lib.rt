@@ -6,7 +6,8 @@ use units::Volume;
 ghost use mathlib.Core.Path.{_≡_};
 ghost use Prim.Native.Nat.{_+_, _-_, _*_, _<_, _≤_, _^_, min};
 ghost use lib.IntN.{natAbs, _*ℤ_};
-ghost use Rattle.poly.specs.Poly.{stepOf, hornerOf, capacityTo, magOf, rangeOk, coefficientsOk, polyOk};
+ghost use Rattle.units.specs.Limits.{volumeMax};
+ghost use Rattle.poly.specs.Poly.{stepMax, stepOf, hornerOf, capacityTo, magOf, rangeOk, coefficientsOk, polyOk};
 ghost use Rattle.poly.specs.Search.{areaFrom, halveOf, findEnd};
 ghost use Rattle.poly.specs.Granted.{InRange, Ranged};
 
@@ -20,7 +21,7 @@ pub struct Polynome {
 
 // One step of Horner's rule, where neither part passes 2^61.
 fn step(v: i64, d: i64, c: i64, k: u64) -> i64
-    requires { ⌜ (0 < k) × (k < 5) × (magOf (natAbs v) (natAbs d) c k ≤ 2 ^ 61) ⌝ }
+    requires { ⌜ (0 < k) × (k < 5) × (magOf (natAbs v) (natAbs d) c k ≤ stepMax) ⌝ }
     ensures { λ r. ⌜ r ≡ stepOf v d c k ⌝ }
 {
     let p = signed::mul(v, d);
@@ -41,19 +42,19 @@ fn horner(c0: i64, c1: i64, c2: i64, c3: i64, d: i64) -> i64
     signed::mul(v0, d)
 }
 
-// One step of the range rule; LIMIT + 1 stands for all that is larger than LIMIT.
+// One step of the range rule; STEP_MAX + 1 stands for all that is larger.
 fn mag_step(v: u64, m: u64, q: u64) -> u64
-    requires { ⌜ (v ≤ 2 ^ 61) × (q ≤ 2 ^ 63) ⌝ }
-    ensures { λ r. ⌜ r ≡ min (v * m + q) (2 ^ 61 + 1) ⌝ }
+    requires { ⌜ (v ≤ stepMax) × (q ≤ 2 ^ 63) ⌝ }
+    ensures { λ r. ⌜ r ≡ min (v * m + q) (stepMax + 1) ⌝ }
 {
     if m != 0 {
-        if Polynome::LIMIT / m < v {
-            return Polynome::LIMIT + 1;
+        if Polynome::STEP_MAX / m < v {
+            return Polynome::STEP_MAX + 1;
         }
     }
     let p = v * m;
-    if Polynome::LIMIT < p + q {
-        return Polynome::LIMIT + 1;
+    if Polynome::STEP_MAX < p + q {
+        return Polynome::STEP_MAX + 1;
     }
     p + q
 }
@@ -63,23 +64,23 @@ fn in_range(c0: i64, c1: i64, c2: i64, c3: i64, m: u64) -> bool
     ensures { λ r. ⌜ r ≡ rangeOk c0 c1 c2 c3 m ⌝ }
 {
     let v3 = mag_step(0, m, signed::magnitude(c3) / 4);
-    if Polynome::LIMIT < v3 {
+    if Polynome::STEP_MAX < v3 {
         return false;
     }
     let v2 = mag_step(v3, m, signed::magnitude(c2) / 3);
-    if Polynome::LIMIT < v2 {
+    if Polynome::STEP_MAX < v2 {
         return false;
     }
     let v1 = mag_step(v2, m, signed::magnitude(c1) / 2);
-    if Polynome::LIMIT < v1 {
+    if Polynome::STEP_MAX < v1 {
         return false;
     }
     let v0 = mag_step(v1, m, signed::magnitude(c0));
-    if Polynome::LIMIT < v0 {
+    if Polynome::STEP_MAX < v0 {
         return false;
     }
     let last = mag_step(v0, m, 0);
-    last <= Polynome::LIMIT
+    last <= Polynome::STEP_MAX
 }
 
 // The distance between two dates.
@@ -92,7 +93,10 @@ fn distance(a: Date, b: Date) -> u64
 impl Polynome {
     pub const COEFFICIENTS: usize = 4;
 
-    pub const LIMIT: u64 = 2_305_843_009_213_693_952;
+    pub const COEFFICIENT_MAX: u64 = 1 << 61;
+
+    // What no step of the range rule passes.
+    pub const STEP_MAX: u64 = 1 << 61;
 
     // Is each coefficient inside its limits?
     fn coefficients_ok(self) -> bool
@@ -102,16 +106,16 @@ impl Polynome {
         let c1 = self.coefficients[1];
         let c2 = self.coefficients[2];
         let c3 = self.coefficients[3];
-        if Polynome::LIMIT < signed::magnitude(c0) {
+        if Polynome::COEFFICIENT_MAX < signed::magnitude(c0) {
             return false;
         }
-        if Polynome::LIMIT < signed::magnitude(c1) {
+        if Polynome::COEFFICIENT_MAX < signed::magnitude(c1) {
             return false;
         }
-        if Polynome::LIMIT < signed::magnitude(c2) {
+        if Polynome::COEFFICIENT_MAX < signed::magnitude(c2) {
             return false;
         }
-        signed::magnitude(c3) <= Polynome::LIMIT
+        signed::magnitude(c3) <= Polynome::COEFFICIENT_MAX
     }
 
     // Are the offset and the coefficients inside their limits, and the polynomial inside its range rule over the window?
@@ -140,7 +144,7 @@ impl Polynome {
     // evaluate_exact_integral: the capacity to a date of the window.
     pub fn capacity(self, window: Interval, x: Date) -> i64
         requires { ⌜ Ranged self window ⌝ ∗ ⌜ (window .start .0 ≤ x .0) × (x .0 ≤ window .end .0) ⌝ }
-        ensures { λ r. ⌜ r ≡ capacityTo self (x .0) ⌝ ∗ ⌜ natAbs r ≤ 2 ^ 61 ⌝ }
+        ensures { λ r. ⌜ r ≡ capacityTo self (x .0) ⌝ ∗ ⌜ natAbs r ≤ stepMax ⌝ }
     {
         let a = signed::signed(x.0);
         let b = signed::signed(self.offset.0);
@@ -154,7 +158,7 @@ impl Polynome {
 
     // The capacity from a date on, whose own capacity is known, to another.
     fn area(self, window: Interval, known: i64, y: Date) -> i64
-        requires { ⌜ Ranged self window ⌝ ∗ ⌜ (window .start .0 ≤ y .0) × (y .0 ≤ window .end .0) ⌝ ∗ ⌜ natAbs known ≤ 2 ^ 61 ⌝ }
+        requires { ⌜ Ranged self window ⌝ ∗ ⌜ (window .start .0 ≤ y .0) × (y .0 ≤ window .end .0) ⌝ ∗ ⌜ natAbs known ≤ stepMax ⌝ }
         ensures { λ r. ⌜ r ≡ areaFrom self known (y .0) ⌝ }
     {
         let c = self.capacity(window, y);
@@ -163,7 +167,7 @@ impl Polynome {
 
     // The halving between two dates, both included.
     fn halve(self, window: Interval, known: i64, target: i64, from: Date, end: Date) -> Date
-        requires { ⌜ Ranged self window ⌝ ∗ ⌜ (window .start .0 ≤ from .0) × (end .0 ≤ window .end .0) × (from .0 ≤ end .0) ⌝ ∗ ⌜ natAbs known ≤ 2 ^ 61 ⌝ }
+        requires { ⌜ Ranged self window ⌝ ∗ ⌜ (window .start .0 ≤ from .0) × (end .0 ≤ window .end .0) × (from .0 ≤ end .0) ⌝ ∗ ⌜ natAbs known ≤ stepMax ⌝ }
         ensures { λ r. ⌜ r .0 ≡ halveOf (end .0 + 1 - from .0) (areaFrom self known) target (from .0) (end .0 + 1) ⌝ }
     {
         let mut low = from.0;
@@ -188,7 +192,7 @@ impl Polynome {
 
     // find_end_bundle: the end of a send of this size from a date on, in a free segment.
     pub fn find_end(self, window: Interval, segment: Interval, from: Date, size: Volume) -> End
-        requires { ⌜ Ranged self window ⌝ ∗ ⌜ (window .start .0 ≤ segment .start .0) × (segment .end .0 ≤ window .end .0) ⌝ ∗ ⌜ size .0 ≤ 2 ^ 38 ⌝ }
+        requires { ⌜ Ranged self window ⌝ ∗ ⌜ (window .start .0 ≤ segment .start .0) × (segment .end .0 ≤ window .end .0) ⌝ ∗ ⌜ size .0 ≤ volumeMax ⌝ }
         ensures { λ r. ⌜ r ≡ findEnd self (segment .start .0) (segment .end .0) (from .0) (size .0) ⌝ }
     {
         let start = segment.start;

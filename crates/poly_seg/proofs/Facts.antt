@@ -1,5 +1,5 @@
 -- What a record that passes its test is, and what an offer made on it is.
-use Prim.Native.Nat.{ℕ, zero, suc, _<_, _≤_, _^_}
+use Prim.Native.Nat.{ℕ, zero, suc, _<_, _≤_}
 use mathlib.Core.Bool.{true, false}
 use mathlib.Core.Path.{_≡_, _∙_}
 use mathlib.Core.List.{List, [], _∷_}
@@ -9,7 +9,7 @@ use lib.Seq.{getD-take}
 use borrow.Author.Tests.{le-leb, eqb-true}
 use Rattle.units.specs.declared.Interval.{Interval}
 use Rattle.units.specs.Logic.{both, allOf}
-use Rattle.units.specs.Limits.{windowOk}
+use Rattle.units.specs.Limits.{dateMax, segmentsMax, listedMax, windowOk}
 use Rattle.units.proofs.Logic.{both-go, both-stop, both-fst, both-snd, both-yes}
 use Rattle.units.proofs.Counted.{counted, counted-some, counted-most, counted-holds}
 use Rattle.units.proofs.Windows.{Window, window}
@@ -61,7 +61,7 @@ module _ (r : PolySeg) where
     record-delayed e = both-go _ _ (open-yes _ _ _ _ h) ∙ both-stop _ _ e
 
     pub record-listed : allOf noDelay (drop (r .«delay_count») (r .delays)) ≡ true
-        → recordOk r ≡ counted 64 (r .free .count)
+        → recordOk r ≡ counted listedMax (r .free .count)
         (both (listOk [] (r .window .start .0) (r .window .end .0) (listed (r .free))) (allOf noVolume (drop (r .free .count) (r .free .segments))))
     unfolding recordOk
     record-listed e = both-go _ _ (open-yes _ _ _ _ h) ∙ both-go _ _ e
@@ -70,11 +70,11 @@ pub record Facts (r : PolySeg) : Type 0 where
   pub test : Opens r
   pub window : Window (r .window)
   pub range : Ranged (r .polynome) (r .window)
-  pub places : r .«delay_count» ≤ 16
+  pub places : r .«delay_count» ≤ segmentsMax
   pub short : AllShort (delayList r)
   pub undelayed : allOf noDelay (drop (r .«delay_count») (r .delays)) ≡ true
   pub some : 1 ≤ r .free .count
-  pub few : r .free .count ≤ 64
+  pub few : r .free .count ≤ listedMax
   pub rules : listOk [] (r .window .start .0) (r .window .end .0) (listed (r .free)) ≡ true
   pub free : Listed [] (r .window .start .0) (r .window .end .0) (listed (r .free))
   pub unused : allOf noVolume (drop (r .free .count) (r .free .segments)) ≡ true
@@ -85,7 +85,7 @@ facts r e =
     let test = open-passed _ _ _ _ (eqb-true _ _ (both-fst _ _ e)) in
     let rest = both-snd _ _ e in
     let list = both-snd _ _ rest in
-    let holds = counted-holds 64 (r .free .count) _ list in
+    let holds = counted-holds listedMax (r .free .count) _ list in
     record {
       test = test;
       window = window _ (test .window);
@@ -93,8 +93,8 @@ facts r e =
       places = delays-most _ _ (test .delay);
       short = delays-short _ _ (test .delay);
       undelayed = both-fst _ _ rest;
-      some = counted-some 64 (r .free .count) _ list;
-      few = counted-most 64 (r .free .count) _ list;
+      some = counted-some listedMax (r .free .count) _ list;
+      few = counted-most listedMax (r .free .count) _ list;
       rules = both-fst _ _ holds;
       free = listed-true _ _ _ _ (both-fst _ _ holds);
       unused = both-snd _ _ holds;
@@ -159,9 +159,9 @@ module _ (r : PolySeg) (q : Facts r) (t v : ℕ) (pos : 1 ≤ v) (i : ℕ) (send
   found-inside = offered-inside [] 0 (r .window .end .0) (send .start .0) (send .end .0) 0 (listed (r .free)) _ i (q .free) found-offered
 
   -- its dates are in the window
-  pub found-dates : (send .start .0 ≤ 2 ^ 40) × (send .end .0 ≤ 2 ^ 40)
+  pub found-dates : (send .start .0 ≤ dateMax) × (send .end .0 ≤ dateMax)
   found-dates =
-      let date : r .window .end .0 ≤ 2 ^ 40 = q .window .date in
+      let date : r .window .end .0 ≤ dateMax = q .window .date in
       (omega (arith, found-inside .1, found-after), omega (arith, found-inside .1))
 
   -- what the cut's call asks

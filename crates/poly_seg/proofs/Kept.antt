@@ -6,6 +6,7 @@ use mathlib.Core.List.{List, [], _∷_}
 use mathlib.Core.Logic.{⊎-elim, _⊎_, inl, inr}
 use native.Mathlib.Omega.{arith}
 use lib.ListN.{length, take, length-take}
+use Rattle.units.specs.Limits.{segmentsMax, listedMax}
 use Rattle.units.specs.declared.Date.{Date}
 use Rattle.units.specs.declared.Interval.{Interval}
 use Rattle.units.specs.declared.TxData.{TxData}
@@ -49,9 +50,9 @@ unfolding delaysOk
 passed-takes w p delays delays′ k e h =
     record { window = h .window; delay = rw (← e) (h .delay); polynome = h .polynome }
 
-module _ (w : Interval) (p : Polynome) (delays : List DelaySegment) (k : ℕ) (delay-size : length delays ≡ 16) (zero : openOf w p delays k .number ≡ 0) where
+module _ (w : Interval) (p : Polynome) (delays : List DelaySegment) (k : ℕ) (delay-size : length delays ≡ segmentsMax) (zero : openOf w p delays k .number ≡ 0) where
   abbrev kept : List DelaySegment
-  kept = padded 16 zeroDelay (take k delays)
+  kept = padded segmentsMax zeroDelay (take k delays)
 
   -- what an accepted opening hands back
   pub opened-manager : openOf w p delays k .manager ≡ doneOf w p kept k (listIn (wholeWindow w 0 ∷ [])) .manager
@@ -66,8 +67,8 @@ module _ (w : Interval) (p : Polynome) (delays : List DelaySegment) (k : ℕ) (d
       let some = window w (h .window) .some in
       rw opened-manager
       (record-kept _
-      (passed-takes w p delays kept k (sym (take-padded 16 zeroDelay (take k delays) k size)) h)
-      (unused-padded 16 zeroDelay noDelay (take k delays) k size zero-delay)
+      (passed-takes w p delays kept k (sym (take-padded segmentsMax zeroDelay (take k delays) k size)) h)
+      (unused-padded segmentsMax zeroDelay noDelay (take k delays) k size zero-delay)
       (kept-in [] (w .start .0) (w .end .0) (wholeWindow w 0 ∷ []) (omega arith) (omega arith)
       (omega arith, omega arith, omega arith, omega arith, tt)))
 
@@ -80,7 +81,7 @@ pub record Accepted (r : PolySeg) (at : Date) (b : Bundle) (d : TxData) (a : Boo
   pub some : 1 ≤ b .size .0
   pub place : ℕ
   pub found : foundOf r (at .0) (b .size .0) ≡ At place (d .send)
-  pub few : length (cutOf [] (listed (r .free)) place (d .send .start .0) (d .send .end .0) 0) ≤ 64
+  pub few : length (cutOf [] (listed (r .free)) place (d .send .start .0) (d .send .end .0) 0) ≤ listedMax
   pub number : a .number ≡ 0
   pub manager : a .manager ≡ withFree r (listIn (cutOf [] (listed (r .free)) place (d .send .start .0) (d .send .end .0) 0))
 

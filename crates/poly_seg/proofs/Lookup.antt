@@ -5,6 +5,7 @@ use mathlib.Core.Path.{_≡_}
 use mathlib.Core.List.{List, [], _∷_}
 use lib.ListN.{take}
 use borrow.Author.Tests.{leb-true}
+use Rattle.units.specs.Limits.{segmentsMax}
 use Rattle.units.specs.Logic.{allOf}
 use Rattle.units.proofs.Logic.{both-fst, both-snd, all-head, all-tail}
 use Rattle.segmentation.specs.declared.DelaySegment.{DelaySegment}
@@ -17,7 +18,7 @@ all-short [] e = tt
 all-short (d ∷ l) e = (leb-true _ _ (both-snd _ _ (both-snd _ _ (all-head delayOk d l e))), all-short l (all-tail delayOk d l e))
 
 module _ (k : ℕ) (l : List DelaySegment) (e : delaysOk k l ≡ true) where
-  pub delays-most : k ≤ 16
+  pub delays-most : k ≤ segmentsMax
   unfolding delaysOk
   delays-most = leb-true _ _ (both-fst _ _ e)
 

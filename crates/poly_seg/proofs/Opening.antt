@@ -8,7 +8,7 @@ use lib.Dec.{eqb}
 use lib.ListN.{take}
 use borrow.Author.Tests.{eq-eqb, ne-eqb}
 use Rattle.units.specs.declared.Interval.{Interval}
-use Rattle.units.specs.Limits.{windowOk}
+use Rattle.units.specs.Limits.{segmentsMax, windowOk}
 use Rattle.units.specs.Arrays.{padded}
 use Rattle.units.proofs.Logic.{unless-go, unless-stop, unless-keeps}
 use Rattle.segmentation.specs.declared.DelaySegment.{DelaySegment}
@@ -47,12 +47,12 @@ module _ (w : Interval) (p : Polynome) (delays : List DelaySegment) (k : ℕ) wh
     unfolding openOf
     open-polynome h2 e = unless-go _ _ _ h1 ∙ unless-go _ _ _ h2 ∙ unless-stop _ _ _ e
 
-  pub open-done : Passed w p delays k → opened ≡ doneOf w p (padded 16 zeroDelay (take k delays)) k (listIn (wholeWindow w 0 ∷ []))
+  pub open-done : Passed w p delays k → opened ≡ doneOf w p (padded segmentsMax zeroDelay (take k delays)) k (listIn (wholeWindow w 0 ∷ []))
   unfolding openOf
   open-done h = unless-go _ _ _ (h .window) ∙ unless-go _ _ _ (h .delay) ∙ unless-go _ _ _ (h .polynome)
 
   -- the answer that is put together of these parts
-  pub open-parts : Passed w p delays k → (ds : List DelaySegment) → ds ≡ padded 16 zeroDelay (take k delays)
+  pub open-parts : Passed w p delays k → (ds : List DelaySegment) → ds ≡ padded segmentsMax zeroDelay (take k delays)
       → (f : FreeList) → f ≡ listIn (wholeWindow w 0 ∷ []) → doneOf w p ds k f ≡ opened
   open-parts h ds d f e = rw (d, e) (sym (open-done h))
 

@@ -7,7 +7,7 @@ use lib.IntN.{pos}
 use lib.ListN.{take, replicate}
 use Rattle.units.specs.declared.Interval.{Interval}
 use Rattle.units.specs.Logic.{both, unless, allOf}
-use Rattle.units.specs.Limits.{dateMax, delayMax, windowOk}
+use Rattle.units.specs.Limits.{segmentsMax, dateMax, delayMax, windowOk}
 use Rattle.units.specs.Answer.{interval}
 use Rattle.units.specs.Arrays.{padded}
 use Rattle.segmentation.specs.declared.DelaySegment.{DelaySegment}
@@ -23,7 +23,7 @@ delayOk s = both (leb (s .start .0) dateMax) (both (leb (s .end .0) dateMax) (le
 
 -- refusal 5: only a count above 16 or a number outside its limits
 unfoldable pub delaysOk : ℕ → List DelaySegment → Bool
-delaysOk n l = both (leb n 16) (allOf delayOk (take n l))
+delaysOk n l = both (leb n segmentsMax) (allOf delayOk (take n l))
 
 -- a refused opening returns an all-zero record
 abbrev pub refusedOpening : ℕ → Opened
@@ -33,7 +33,7 @@ refusedOpening n =
       manager = record {
         window = interval 0 0;
         polynome = record { coefficients = replicate 4 (pos 0); offset = record { 0 = 0 } };
-        delays = replicate 16 zeroDelay;
+        delays = replicate segmentsMax zeroDelay;
         «delay_count» = 0;
         free = listIn [];
       };
@@ -50,7 +50,7 @@ openOf w p delays k =
       manager = record {
         window = w;
         polynome = p;
-        delays = padded 16 zeroDelay (take k delays);
+        delays = padded segmentsMax zeroDelay (take k delays);
         «delay_count» = k;
         free = listIn (wholeWindow w 0 ∷ []);
       };

@@ -3,6 +3,7 @@ use mathlib.Core.Bool.{Bool}
 use mathlib.Core.List.{List, []}
 use lib.Dec.{leb, eqb}
 use lib.ListN.{take, drop}
+use Rattle.units.specs.Limits.{listedMax}
 use Rattle.units.specs.Logic.{both, allOf}
 use Rattle.segmentation.specs.declared.DelaySegment.{DelaySegment}
 use Rattle.contact.specs.Segments.{noVolume, noDelay}
@@ -21,6 +22,6 @@ recordOk r =
     both (eqb (openOf (r .window) (r .polynome) (r .delays) (r .«delay_count») .number) 0)
     (both (allOf noDelay (drop (r .«delay_count») (r .delays)))
     (both (leb 1 (r .free .count))
-    (both (leb (r .free .count) 64)
+    (both (leb (r .free .count) listedMax)
     (both (listOk [] (r .window .start .0) (r .window .end .0) (listed (r .free)))
     (allOf noVolume (drop (r .free .count) (r .free .segments)))))))

@@ -18,9 +18,9 @@ use units::Volume;
 ghost use mathlib.Core.Path.{_≡_};
 ghost use mathlib.Core.Bool.{true};
 ghost use mathlib.Core.List.{[]};
-ghost use Prim.Native.Nat.{_≤_, _^_};
+ghost use Prim.Native.Nat.{_≤_};
 ghost use lib.ListN.{take};
-ghost use Rattle.units.specs.Limits.{windowOk};
+ghost use Rattle.units.specs.Limits.{dateMax, volumeMax, listedMax, windowOk};
 ghost use Rattle.segmentation.specs.Delay.{answerWith};
 ghost use Rattle.free_list.specs.Listed.{segmentOk, listOk};
 ghost use Rattle.free_list.specs.Granted.{Inside};
@@ -112,7 +112,7 @@ pub fn bare_segment(g: VolumeSegment, low: Date, hi: Date) -> bool
 
 // Does the free list keep its rules: in the window, in order, no volumes?
 pub fn bare_ok(segments: [VolumeSegment; FreeList::COUNT_MAX], n: usize, window: Interval) -> bool
-    requires { ⌜ n ≤ 64 ⌝ ∗ ⌜ windowOk window ≡ true ⌝ }
+    requires { ⌜ n ≤ listedMax ⌝ ∗ ⌜ windowOk window ≡ true ⌝ }
     ensures { λ r. ⌜ r ≡ listOk [] (window .start .0) (window .end .0) (take n segments) ⌝ }
 {
     let hi = window.end;
@@ -238,7 +238,7 @@ impl PolySeg {
 
     // The end that a listed segment has for the bundle: none if it ends before the asked time.
     fn end_in(self, g: VolumeSegment, asked: Date, size: Volume) -> End
-        requires { ⌜ recordOk self ≡ true ⌝ ∗ ⌜ (self .window .start .0 ≤ g .start .0) × (g .end .0 ≤ self .window .end .0) ⌝ ∗ ⌜ size .0 ≤ 2 ^ 38 ⌝ }
+        requires { ⌜ recordOk self ≡ true ⌝ ∗ ⌜ (self .window .start .0 ≤ g .start .0) × (g .end .0 ≤ self .window .end .0) ⌝ ∗ ⌜ size .0 ≤ volumeMax ⌝ }
         ensures { λ r. ⌜ r ≡ endIn (self .polynome) g (asked .0) (size .0) ⌝ }
     {
         let start = g.start;
@@ -262,7 +262,7 @@ impl PolySeg {
 
     // The search of a dry run, on a record that keeps its rules: a free segment that has no end is passed over.
     fn search(self, asked: Date, size: Volume) -> Found
-        requires { ⌜ recordOk self ≡ true ⌝ ∗ ⌜ size .0 ≤ 2 ^ 38 ⌝ }
+        requires { ⌜ recordOk self ≡ true ⌝ ∗ ⌜ size .0 ≤ volumeMax ⌝ }
         ensures { λ r. ⌜ r ≡ foundOf self (asked .0) (size .0) ⌝ }
     {
         let free = self.free;
@@ -291,7 +291,7 @@ impl PolySeg {
 
     // The offer of a send interval, with its delays.
     fn answer(self, send: Interval) -> Offer
-        requires { ⌜ recordOk self ≡ true ⌝ ∗ ⌜ (send .start .0 ≤ 2 ^ 40) × (send .end .0 ≤ 2 ^ 40) ⌝ }
+        requires { ⌜ recordOk self ≡ true ⌝ ∗ ⌜ (send .start .0 ≤ dateMax) × (send .end .0 ≤ dateMax) ⌝ }
         ensures { λ r. ⌜ r ≡ answerWith (delayList self) send ⌝ }
     {
         let delays = self.delays;

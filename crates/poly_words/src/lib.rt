@@ -6,12 +6,14 @@ use segmentation::VolumeSegment;
 use units::Date;
 use units::Interval;
 use units::Volume;
+use words::LISTED;
 use words::listed_at;
 ghost use mathlib.Core.Path.{_≡_};
 ghost use mathlib.Core.Bool.{true};
 ghost use mathlib.Core.List.{[]};
-ghost use Prim.Native.Nat.{_≤_, _^_};
+ghost use Prim.Native.Nat.{_≤_};
 ghost use lib.ListN.{take};
+ghost use Rattle.units.specs.Limits.{volumeMax, listedMax};
 ghost use Rattle.free_list.specs.Listed.{listOk};
 ghost use Rattle.poly.specs.Granted.{Ranged};
 ghost use Rattle.poly_seg.specs.DryRun.{endIn, offerOf};
@@ -28,7 +30,7 @@ pub fn end_in(
     asked: Date,
     size: Volume,
 ) -> End
-    requires { ⌜ Ranged polynome window ⌝ ∗ ⌜ (window .start .0 ≤ g .start .0) × (g .end .0 ≤ window .end .0) ⌝ ∗ ⌜ size .0 ≤ 2 ^ 38 ⌝ }
+    requires { ⌜ Ranged polynome window ⌝ ∗ ⌜ (window .start .0 ≤ g .start .0) × (g .end .0 ≤ window .end .0) ⌝ ∗ ⌜ size .0 ≤ volumeMax ⌝ }
     ensures { λ r. ⌜ r ≡ endIn polynome g (asked .0) (size .0) ⌝ }
 {
     let start = g.start;
@@ -52,12 +54,12 @@ pub fn end_in(
 pub fn find_offer(
     window: Interval,
     polynome: Polynome,
-    free: &[u64; 192],
+    free: &[u64; LISTED],
     n: usize,
     asked: Date,
     size: Volume,
 ) -> Found
-    requires { ⌜ n ≤ 64 ⌝ ∗ ⌜ Ranged polynome window ⌝ ∗ ⌜ listOk [] (window .start .0) (window .end .0) (take n (volumesIn (now free))) ≡ true ⌝ ∗ ⌜ size .0 ≤ 2 ^ 38 ⌝ }
+    requires { ⌜ n ≤ listedMax ⌝ ∗ ⌜ Ranged polynome window ⌝ ∗ ⌜ listOk [] (window .start .0) (window .end .0) (take n (volumesIn (now free))) ≡ true ⌝ ∗ ⌜ size .0 ≤ volumeMax ⌝ }
     ensures { λ r. ⌜ r ≡ offerOf polynome (take n (volumesIn (now (free .entry)))) (asked .0) (size .0) ⌝ }
 {
     told(free);

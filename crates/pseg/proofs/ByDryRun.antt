@@ -8,7 +8,7 @@ use Rattle.units.specs.declared.Interval.{Interval}
 use Rattle.units.specs.declared.TxData.{TxData}
 use Rattle.units.specs.declared.Bundle.{Bundle}
 use Rattle.units.specs.declared.Offer.{Offer}
-use Rattle.units.specs.Limits.{bundleOk}
+use Rattle.units.specs.Limits.{priorityMax, bundleOk}
 use Rattle.units.specs.Answer.{offers}
 use Rattle.units.specs.Granted.{refusalOf}
 use Rattle.units.proofs.Logic.{no-both}
@@ -65,5 +65,5 @@ module _ (r : PrioritySeg) (at : Date) (b : Bundle) (d : TxData) (ok : recordOk 
     dry-found = run-sends r (runOf r (at .0) b) d (rw (dry-fits r at b ok dry-bundled) at dry-offers)
 
     -- one that is not refused
-    pub dry-done : (bookOf r at b d ≡ bookedOf r (d .send) (b .priority .0)) × (b .priority .0 ≤ 127)
+    pub dry-done : (bookOf r at b d ≡ bookedOf r (d .send) (b .priority .0)) × (b .priority .0 ≤ priorityMax)
     dry-done = (book-at r at b ok dry-bundled d (d .send) dry-found dry-offers, load b (asked-load at b dry-bundled) .priority)

@@ -1,11 +1,12 @@
 -- What a record that passes its test is, and what a run found on it is.
-use Prim.Native.Nat.{ℕ, _<_, _≤_, _^_}
+use Prim.Native.Nat.{ℕ, _<_, _≤_}
 use mathlib.Core.Bool.{true}
 use mathlib.Core.Path.{_≡_, refl, ap, _∙_}
 use mathlib.Core.List.{List, [], _∷_}
 use native.Mathlib.Omega.{arith}
 use lib.ListN.{length, drop}
 use borrow.Author.Tests.{le-leb, eqb-true}
+use Rattle.units.specs.Limits.{dateMax, listedMax}
 use Rattle.units.specs.declared.Interval.{Interval}
 use Rattle.units.specs.declared.Bundle.{Bundle}
 use Rattle.units.specs.Logic.{both, allOf}
@@ -36,7 +37,7 @@ pub record Facts (r : PrioritySeg) : Type 0 where
   pub test : contactOk (r .contact) ≡ true
   pub contact : Sound (r .contact)
   pub some : 1 ≤ r .bookings .count
-  pub few : r .bookings .count ≤ 64
+  pub few : r .bookings .count ≤ listedMax
   pub cover : Covered (r .contact) (listed (r .bookings))
   pub unused : allOf noBooking (drop (r .bookings .count) (r .bookings .segments)) ≡ true
 
@@ -45,12 +46,12 @@ unfolding recordOk bookingsOk
 facts r e =
     let test = both-fst _ _ e in
     let list = both-snd _ _ e in
-    let holds = counted-holds 64 (r .bookings .count) _ list in
+    let holds = counted-holds listedMax (r .bookings .count) _ list in
     record {
       test = test;
       contact = sound (r .contact) test;
-      some = counted-some 64 (r .bookings .count) _ list;
-      few = counted-most 64 (r .bookings .count) _ list;
+      some = counted-some listedMax (r .bookings .count) _ list;
+      few = counted-most listedMax (r .bookings .count) _ list;
       cover = both-fst _ _ holds;
       unused = both-snd _ _ holds;
     }
@@ -60,10 +61,10 @@ unfolding noBooking both
 zero-unused = refl
 
 pub listed-in : (f : List BookingSegment) → listed (listIn f) ≡ f
-listed-in f = take-padded 64 (segment 0 0 0) f (length f) refl
+listed-in f = take-padded listedMax (segment 0 0 0) f (length f) refl
 
 -- a contact that keeps its rules, with 1 to 64 bookings that cover its window, is a record that does
-pub record-kept : (c : Contact) (f : List BookingSegment) → contactOk c ≡ true → 1 ≤ length f → length f ≤ 64 → Covered c f
+pub record-kept : (c : Contact) (f : List BookingSegment) → contactOk c ≡ true → 1 ≤ length f → length f ≤ listedMax → Covered c f
     → recordOk (record { contact = c; bookings = listIn f }) ≡ true
 unfolding recordOk bookingsOk
 record-kept c f e some few cover =
@@ -71,7 +72,7 @@ record-kept c f e some few cover =
     (both-yes _ _ (le-leb _ _ some)
     (both-yes _ _ (le-leb _ _ few)
     (both-yes _ _ (ap (coverOk (c .window .start .0) (c .window .end .0)) (listed-in f) ∙ cover)
-    (unused-padded 64 (segment 0 0 0) noBooking f (length f) refl zero-unused))))
+    (unused-padded listedMax (segment 0 0 0) noBooking f (length f) refl zero-unused))))
 
 -- no list of nothing covers a window
 pub cover-some : (a b : ℕ) (f : List BookingSegment) → a < b → coverOk a b f ≡ true → 1 ≤ length f
@@ -91,7 +92,7 @@ module _ (r : PrioritySeg) (q : Facts r) (t : ℕ) (b : Bundle) (send : Interval
     found-ends = end-ends (ratesOf (r .contact)) (send .start .0) (b .size .0) pos (r .contact .window .end .0) (send .end) (found-free .ends)
 
     -- its dates are in the window
-    found-dates : (send .start .0 ≤ 2 ^ 40) × (send .end .0 ≤ 2 ^ 40)
+    found-dates : (send .start .0 ≤ dateMax) × (send .end .0 ≤ dateMax)
     found-dates =
         let forth = found-ends .forth in
         let by = found-ends .by in
@@ -99,5 +100,5 @@ module _ (r : PrioritySeg) (q : Facts r) (t : ℕ) (b : Bundle) (send : Interval
         (omega (arith, forth, by, date), omega (arith, by, date))
 
     -- what the answer's call asks
-    pub answer-asks : (contactOk (r .contact) ≡ true) × ((send .start .0 ≤ 2 ^ 40) × (send .end .0 ≤ 2 ^ 40))
+    pub answer-asks : (contactOk (r .contact) ≡ true) × ((send .start .0 ≤ dateMax) × (send .end .0 ≤ dateMax))
     answer-asks = (q .test, found-dates)

@@ -8,6 +8,7 @@ use native.Mathlib.Omega.{arith}
 use lib.Dec.{eqb}
 use lib.ListN.{length}
 use borrow.Author.Tests.{eqb-true, eqb-false}
+use Rattle.units.specs.Limits.{segmentsMax, listedMax}
 use Rattle.units.specs.declared.Date.{Date}
 use Rattle.units.specs.declared.Interval.{Interval}
 use Rattle.units.specs.declared.TxData.{TxData}
@@ -27,7 +28,7 @@ use Rattle.contact.proofs.Refusals.{opened-is}
 use Rattle.bookings.specs.declared.BookingSegment.{BookingSegment}
 use Rattle.bookings.specs.declared.Run.the-variants.{Sent}
 use Rattle.bookings.specs.declared.Set.{Set}
-use Rattle.bookings.specs.Listed.{levelAt, listed}
+use Rattle.bookings.specs.Listed.{levelMax, levelAt, listed}
 use Rattle.bookings.specs.Cut.{setOf, laidOf}
 use Rattle.bookings.proofs.CoverLaws.{Cover, cover-true}
 use Rattle.bookings.proofs.CutLoop.{set-full, set-fits}
@@ -62,7 +63,7 @@ module _ (w : Interval) (rates : List RateSegment) (m : ℕ) (delays : List Dela
       let z = zero-go w (openContact w rates m delays k) zero in
       (z .0, ap (λ (x : Opened). x .manager) (z .1) ∙ ap (λ (o : ContactOpened). doneOf w o .manager) (opened-is w rates m delays k (z .0) .0))
 
-  module _ (rate-size : length rates ≡ 16) (delay-size : length delays ≡ 16) where
+  module _ (rate-size : length rates ≡ segmentsMax) (delay-size : length delays ≡ segmentsMax) where
     opened-contact : contactOk (contactOf w rates m delays k) ≡ true
     opened-contact =
         let z = opened-manager .0 in
@@ -86,9 +87,9 @@ setListed r b d = setOf (d .send .start .0) (d .send .end .0) (b .priority .0 + 
 
 pub record Accepted (r : PrioritySeg) (at : Date) (b : Bundle) (d : TxData) (a : Booked) : Type 0 where
   pub some : 0 < b .size .0
-  pub level : b .priority .0 + 1 ≤ 128
+  pub level : b .priority .0 + 1 ≤ levelMax
   pub found : runOf r (at .0) b ≡ Sent (d .send)
-  pub few : length (setListed r b d) ≤ 64
+  pub few : length (setListed r b d) ≤ listedMax
   pub number : a .number ≡ 0
   pub manager : a .manager ≡ record { contact = r .contact; bookings = listIn (setListed r b d) }
 
@@ -109,7 +110,7 @@ module _ (r : PrioritySeg) (at : Date) (b : Bundle) (d : TxData) (ok : recordOk 
         let l = load b (asked-load at b (dry-bundled r at b d ok none)) in
         let is = dry-done r at b d ok none .0 in
         ⊎-elim
-        (λ (few : length list ≤ 64).
+        (λ (few : length list ≤ listedMax).
         let done = is ∙ sym (ap bookedBy (set-fits (r .bookings) (d .send .start .0) (d .send .end .0) (b .priority .0 + 1) (length list) refl (laidOf list) few refl)) in
         inr (record {
           some = l .some;
@@ -119,10 +120,10 @@ module _ (r : PrioritySeg) (at : Date) (b : Bundle) (d : TxData) (ok : recordOk 
           number = ap (λ (x : Booked). x .number) done;
           manager = ap (λ (x : Booked). x .manager) done;
         }))
-        (λ (many : 64 < length list).
+        (λ (many : listedMax < length list).
         let full = sym (ap bookedBy (set-full (r .bookings) (d .send .start .0) (d .send .end .0) (b .priority .0 + 1) (length list) refl many)) in
         inl (refuse 10 r booked (λ z. omega arith) (is ∙ full)))
-        (le-or-lt (length list) 64)
+        (le-or-lt (length list) listedMax)
 
   -- a booking is refused, and the record is the one that came; or the send interval is set to the priority's level
   pub book-cases : (Refused r booked) ⊎ (Accepted r at b d booked)

@@ -2,6 +2,7 @@
 use mathlib.Core.Bool.{Bool}
 use lib.Dec.{leb}
 use lib.ListN.{drop}
+use Rattle.units.specs.Limits.{listedMax}
 use Rattle.units.specs.Logic.{both, allOf}
 use Rattle.contact.specs.declared.Contact.{Contact}
 use Rattle.contact.specs.Record.{contactOk}
@@ -12,7 +13,7 @@ use Rattle.pseg.specs.declared.PrioritySeg.{PrioritySeg}
 unfoldable pub bookingsOk : Contact → Bookings → Bool
 bookingsOk c f =
     both (leb 1 (f .count))
-    (both (leb (f .count) 64)
+    (both (leb (f .count) listedMax)
     (both (coverOk (c .window .start .0) (c .window .end .0) (listed f))
     (allOf noBooking (drop (f .count) (f .segments)))))
 

@@ -17,6 +17,7 @@ ghost use mathlib.Core.Path.{_≡_};
 ghost use mathlib.Core.Bool.{true};
 ghost use mathlib.Core.List.{List, [], _∷_};
 ghost use Prim.Native.Nat.{_≤_};
+ghost use Rattle.units.specs.Limits.{priorityMax};
 ghost use Rattle.pseg.specs.Open.{openOf, refusedOpening, listIn, wholeWindow};
 ghost use Rattle.pseg.specs.Record.{recordOk};
 ghost use Rattle.pseg.specs.DryRun.{dryRunOf};
@@ -228,7 +229,7 @@ impl PrioritySeg {
 
     // What a booking leaves of the list, on a record that keeps its rules.
     pub fn set(self, send: Interval, priority: Priority) -> Set
-        requires { ⌜ recordOk self ≡ true ⌝ ∗ ⌜ priority .0 ≤ 127 ⌝ }
+        requires { ⌜ recordOk self ≡ true ⌝ ∗ ⌜ priority .0 ≤ priorityMax ⌝ }
         ensures { λ r. ⌜ r ≡ setList self send (priority .0) ⌝ }
     {
         let bookings = self.bookings;

@@ -1,5 +1,5 @@
 -- What a record that passes its test is, and what an offer made on it is.
-use Prim.Native.Nat.{ℕ, _+_, _-_, _<_, _≤_, _^_}
+use Prim.Native.Nat.{ℕ, _+_, _-_, _<_, _≤_}
 use mathlib.Core.Bool.{Bool, true, false}
 use mathlib.Core.Path.{_≡_, refl, sym, ap, _∙_}
 use native.Mathlib.Nat.{le-refl}
@@ -7,6 +7,7 @@ use native.Mathlib.Omega.{arith}
 use lib.Dec.{leb, eqb}
 use lib.ListN.{drop}
 use borrow.Author.Tests.{le-leb, eqb-true, eq-eqb}
+use Rattle.units.specs.Limits.{dateMax, listedMax}
 use Rattle.units.specs.declared.Interval.{Interval}
 use Rattle.units.specs.declared.Volume.{Volume}
 use Rattle.units.specs.Logic.{both, allOf}
@@ -35,7 +36,7 @@ pub record Facts (r : FreeVolume) : Type 0 where
   pub test : contactOk (r .contact) ≡ true
   pub contact : Sound (r .contact)
   pub some : 1 ≤ r .free .count
-  pub few : r .free .count ≤ 64
+  pub few : r .free .count ≤ listedMax
   pub rules : listOk (ratesOf (r .contact)) (r .contact .window .start .0) (r .contact .window .end .0) (listed (r .free)) ≡ true
   pub free : Listed (ratesOf (r .contact)) (r .contact .window .start .0) (r .contact .window .end .0) (listed (r .free))
   pub unused : allOf noVolume (drop (r .free .count) (r .free .segments)) ≡ true
@@ -47,12 +48,12 @@ facts r e =
     let test = both-fst _ _ e in
     let held = both-snd _ _ e in
     let list = both-fst _ _ held in
-    let holds = counted-holds 64 (r .free .count) _ list in
+    let holds = counted-holds listedMax (r .free .count) _ list in
     record {
       test = test;
       contact = sound (r .contact) test;
-      some = counted-some 64 (r .free .count) _ list;
-      few = counted-most 64 (r .free .count) _ list;
+      some = counted-some listedMax (r .free .count) _ list;
+      few = counted-most listedMax (r .free .count) _ list;
       rules = both-fst _ _ holds;
       free = listed-true _ _ _ _ (both-fst _ _ holds);
       unused = both-snd _ _ holds;
@@ -73,7 +74,7 @@ same-tests true true true false false = refl
 -- the record's test, in the order of the code
 pub record-is : (r : FreeVolume) → recordOk r ≡ both (contactOk (r .contact))
     (both (leb 1 (r .free .count))
-    (both (leb (r .free .count) 64)
+    (both (leb (r .free .count) listedMax)
     (both (both (listOk (ratesOf (r .contact)) (r .contact .window .start .0) (r .contact .window .end .0) (listed (r .free))) (eqb (r .room .0) (roomOf (listed (r .free)))))
     (allOf noVolume (drop (r .free .count) (r .free .segments))))))
 unfolding recordOk freeOk
@@ -106,16 +107,16 @@ module _ (r : FreeVolume) (q : Facts r) (t v : ℕ) (pos : 0 < v) (i : ℕ) (sen
       (exact-laws (ratesOf (r .contact)) (r .contact .window .start .0)) pos (listed (r .free)) (r .contact .window .start .0) i (q .free) (le-refl _) h
 
   -- its dates are in the window
-  found-dates : (send .start .0 ≤ 2 ^ 40) × (send .end .0 ≤ 2 ^ 40)
+  found-dates : (send .start .0 ≤ dateMax) × (send .end .0 ≤ dateMax)
   found-dates =
       let l = ratesOf (r .contact) in
       let in-window = offered-inside l (topOf l) (r .contact .window .end .0) (send .start .0) (send .end .0) v (listed (r .free)) _ i (q .free) found-offered in
       let forth = offered-ends l (topOf l) (send .start .0) (send .end .0) v (listed (r .free)) i found-offered .1 .forth in
-      let date : r .contact .window .end .0 ≤ 2 ^ 40 = q .contact .date in
+      let date : r .contact .window .end .0 ≤ dateMax = q .contact .date in
       (omega (arith, in-window .1, forth), omega (arith, in-window .1))
 
   -- what the answer's call asks
-  pub answer-asks : (contactOk (r .contact) ≡ true) × ((send .start .0 ≤ 2 ^ 40) × (send .end .0 ≤ 2 ^ 40))
+  pub answer-asks : (contactOk (r .contact) ≡ true) × ((send .start .0 ≤ dateMax) × (send .end .0 ≤ dateMax))
   answer-asks = (q .test, found-dates)
 
   -- what the cut's call asks

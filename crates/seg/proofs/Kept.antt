@@ -9,6 +9,7 @@ use native.Mathlib.Omega.{arith}
 use lib.Dec.{eqb}
 use lib.ListN.{length, take}
 use borrow.Author.Tests.{eqb-true, eqb-false}
+use Rattle.units.specs.Limits.{segmentsMax, listedMax}
 use Rattle.units.specs.declared.Date.{Date}
 use Rattle.units.specs.declared.Interval.{Interval}
 use Rattle.units.specs.declared.TxData.{TxData}
@@ -61,7 +62,7 @@ zero-go w o true e h = (eqb-true _ _ e, refl)
 zero-go w o false e h = absurd (eqb-false _ _ e h)
 
 module _ (w : Interval) (rates : List RateSegment) (m : ℕ) (delays : List DelaySegment) (k : ℕ)
-    (rate-size : length rates ≡ 16) (delay-size : length delays ≡ 16) (zero : openOf w rates m delays k .number ≡ 0) where
+    (rate-size : length rates ≡ segmentsMax) (delay-size : length delays ≡ segmentsMax) (zero : openOf w rates m delays k .number ≡ 0) where
   -- what an accepted opening hands back
   pub opened-manager : (openContact w rates m delays k .number ≡ 0)
       × (openOf w rates m delays k .manager
@@ -98,7 +99,7 @@ pub record Accepted (r : FreeVolume) (at : Date) (b : Bundle) (d : TxData) (a : 
   pub some : 0 < b .size .0
   pub place : ℕ
   pub found : foundOf r (at .0) (b .size .0) ≡ At place (d .send)
-  pub few : length (cutOf (ratesOf (r .contact)) (listed (r .free)) place (d .send .start .0) (d .send .end .0) (b .size .0)) ≤ 64
+  pub few : length (cutOf (ratesOf (r .contact)) (listed (r .free)) place (d .send .start .0) (d .send .end .0) (b .size .0)) ≤ listedMax
   pub number : a .number ≡ 0
   pub manager : a .manager
       ≡ withFree r (listIn (cutOf (ratesOf (r .contact)) (listed (r .free)) place (d .send .start .0) (d .send .end .0) (b .size .0)))

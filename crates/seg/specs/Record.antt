@@ -3,6 +3,7 @@
 use mathlib.Core.Bool.{Bool}
 use lib.Dec.{leb, eqb}
 use lib.ListN.{drop}
+use Rattle.units.specs.Limits.{listedMax}
 use Rattle.units.specs.declared.Volume.{Volume}
 use Rattle.units.specs.Logic.{both, allOf}
 use Rattle.contact.specs.declared.Contact.{Contact}
@@ -17,7 +18,7 @@ use Rattle.seg.specs.declared.FreeVolume.{FreeVolume}
 unfoldable pub freeOk : Contact → FreeList → Bool
 freeOk c f =
     both (leb 1 (f .count))
-    (both (leb (f .count) 64)
+    (both (leb (f .count) listedMax)
     (both (listOk (ratesOf c) (c .window .start .0) (c .window .end .0) (listed f))
     (allOf noVolume (drop (f .count) (f .segments)))))
 

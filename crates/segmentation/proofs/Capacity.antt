@@ -1,5 +1,5 @@
 -- Laws of the capacity: it splits at a tick and over the segments, and stands still past the window's end.
-use Prim.Native.Nat.{ℕ, zero, suc, _+_, _-_, _*_, _<_, _≤_, _^_, min, max}
+use Prim.Native.Nat.{ℕ, zero, suc, _+_, _-_, _*_, _<_, _≤_, min, max}
 use mathlib.Core.Path.{_≡_, refl, sym, ap, _∙_}
 use mathlib.Core.List.{List, [], _∷_}
 use mathlib.Core.Logic.{⊎-elim}
@@ -8,6 +8,7 @@ use native.Mathlib.Omega.{arith}
 use lib.Dec.{leb, ltb}
 use lib.ListN.{length}
 use borrow.Author.Tests.{le-leb, lt-leb, lt-ltb, le-ltb}
+use Rattle.units.specs.Limits.{volumeMax}
 use Rattle.units.specs.Logic.{both}
 use Rattle.units.proofs.Logic.{both-stop, both-not, both-yes, pick-keeps}
 use Rattle.units.proofs.Numbers.{le-or-lt}
@@ -225,11 +226,11 @@ capacity-most (s ∷ l) f a b r =
     let ok : SegOk s = r .1 in
     omega (arith, cap-add s l a (b - a) (omega (arith, ok .some)) (r .2), part-most s ok a b, capacity-most l (s .end .0) a b (r .2))
 
-sum-most : (l : List VolumeSegment) (f : ℕ) → Run f l → volumeSum l ≤ length l * 2 ^ 38
+sum-most : (l : List VolumeSegment) (f : ℕ) → Run f l → volumeSum l ≤ length l * volumeMax
 unfolding Run volumeSum
 sum-most [] f r = omega arith
 sum-most (s ∷ l) f r = let ok : SegOk s = r .1 in omega (arith, ok .small, sum-most l (s .end .0) (r .2))
 
 -- so what some segments carry fits, whatever they are
-pub capacity-fits : (l : List VolumeSegment) (a b : ℕ) → Runs l → capacity l a b ≤ length l * 2 ^ 38
+pub capacity-fits : (l : List VolumeSegment) (a b : ℕ) → Runs l → capacity l a b ≤ length l * volumeMax
 capacity-fits l a b q = omega (arith, capacity-most l (q .from) a b (q .run), sum-most l (q .from) (q .run))

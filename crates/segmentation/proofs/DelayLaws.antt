@@ -1,5 +1,5 @@
 -- What may be used of the delays: where they are found, that they are short, and the answer made of them.
-use Prim.Native.Nat.{ℕ, _+_, _<_, _≤_, _^_}
+use Prim.Native.Nat.{ℕ, _+_, _<_, _≤_}
 use mathlib.Core.Path.{_≡_, refl}
 use mathlib.Core.List.{List, [], _∷_}
 use mathlib.Core.Logic.{⊎-elim, _⊎_, inl, inr}
@@ -7,6 +7,7 @@ use native.Mathlib.Omega.{arith}
 use lib.Dec.{leb}
 use lib.ListN.{length}
 use borrow.Author.Tests.{leb-false}
+use Rattle.units.specs.Limits.{delayMax}
 use Rattle.units.specs.Answer.{interval, refused}
 use Rattle.units.specs.declared.Delay.{Delay}
 use Rattle.units.specs.declared.Interval.{Interval}
@@ -84,7 +85,7 @@ delays-short l s e h =
 
 -- The answer to each outcome of the lookups.
 module _ (d : Delays) (a b : Delay) (e : d ≡ Of a b) where
-  pub short-both : Short d → (a .0 ≤ 2 ^ 40) × (b .0 ≤ 2 ^ 40)
+  pub short-both : Short d → (a .0 ≤ delayMax) × (b .0 ≤ delayMax)
   short-both h = rw e at h
 
   pub answer-of : (send : Interval) (p q : ℕ) → p ≡ send .start .0 + a .0 → q ≡ send .end .0 + b .0

@@ -1,9 +1,10 @@
 -- The states of the loops over the rate segments: what is left of the list has the answer that is asked.
-use Prim.Native.Nat.{ℕ, _+_, _-_, _*_, _/_, _<_, _≤_, _^_}
+use Prim.Native.Nat.{ℕ, _+_, _-_, _*_, _/_, _<_, _≤_}
 use mathlib.Core.Path.{_≡_, _∙_}
 use mathlib.Core.List.{List, [], _∷_}
 use native.Mathlib.Omega.{arith}
 use lib.ListN.{length, drop}
+use Rattle.units.specs.Limits.{volumeMax}
 use Rattle.units.proofs.Loop.{Left, left-first, left-step, left-here, left-end}
 use Rattle.segmentation.specs.declared.VolumeSegment.{VolumeSegment}
 use Rattle.segmentation.specs.declared.End.{End}
@@ -35,7 +36,7 @@ sumOn a b sum l = sum + capacity l a b
 
 pub record Adding (l : List VolumeSegment) (n a b i sum : ℕ) : Type 0 where
   pub left : Left (sumOn a b) l n 0 i sum
-  pub small : sum ≤ i * 2 ^ 38
+  pub small : sum ≤ i * volumeMax
   pub runs : Runs (drop i l)
 
 pub add-first : (l : List VolumeSegment) (n a b : ℕ) → Runs l → Adding l n a b 0 0
@@ -53,7 +54,7 @@ module _ (l : List VolumeSegment) (n a b i sum : ℕ) (s : VolumeSegment) (q : A
   pub add-ok : SegOk s
   add-ok = run-ok s (drop (i + 1) l) (q .runs .from) add-run
 
-  pub add-step : i < n → (m sum′ : ℕ) → m ≡ capacity (s ∷ []) a b → m ≤ 2 ^ 38 → sum′ ≡ sum + m → Adding l n a b (i + 1) sum′
+  pub add-step : i < n → (m sum′ : ℕ) → m ≡ capacity (s ∷ []) a b → m ≤ volumeMax → sum′ ≡ sum + m → Adding l n a b (i + 1) sum′
   add-step lt m sum′ e le f =
       let ok = add-ok in
       let run = run-on s (drop (i + 1) l) (q .runs .from) add-run in

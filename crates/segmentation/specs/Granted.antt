@@ -1,8 +1,9 @@
 -- What the rules take for granted of their segments: a record's test shows it before they are called. No promise rests on it.
-use Prim.Native.Nat.{ℕ, _+_, _-_, _*_, _<_, _≤_, _^_}
+use Prim.Native.Nat.{ℕ, _+_, _-_, _*_, _<_, _≤_}
 use mathlib.Core.Path.{_≡_}
 use mathlib.Core.List.{List, [], _∷_}
 use lib.ListN.{drop}
+use Rattle.units.specs.Limits.{dateMax, lengthMax, volumeMax, delayMax}
 use Rattle.segmentation.specs.declared.VolumeSegment.{VolumeSegment}
 use Rattle.segmentation.specs.declared.DelaySegment.{DelaySegment}
 use Rattle.segmentation.specs.declared.Delays.{Delays}
@@ -13,9 +14,9 @@ use Rattle.segmentation.specs.Delay.{fromDate}
 -- the segment is not empty, is within the limits, and holds its rate times its length
 pub record SegOk (s : VolumeSegment) : Type 0 where
   pub some : s .start .0 < s .end .0
-  pub short : s .end .0 ≤ s .start .0 + 2 ^ 24
-  pub date : s .end .0 ≤ 2 ^ 40
-  pub small : s .volume .0 ≤ 2 ^ 38
+  pub short : s .end .0 ≤ s .start .0 + lengthMax
+  pub date : s .end .0 ≤ dateMax
+  pub small : s .volume .0 ≤ volumeMax
   pub whole : s .volume .0 ≡ rateOf s * (s .end .0 - s .start .0)
 
 -- the segments follow each other without a gap, from the date on
@@ -36,13 +37,13 @@ pub record Covers (a : ℕ) (l : List VolumeSegment) : Type 0 where
 
 -- delays within their limits
 abbrev pub Short : Delays → Type 0
-Short (Of a b) = (a .0 ≤ 2 ^ 40) × (b .0 ≤ 2 ^ 40)
+Short (Of a b) = (a .0 ≤ delayMax) × (b .0 ≤ delayMax)
 Short None = Unit
 
 -- each delay is within its limit
 unfoldable pub AllShort : List DelaySegment → Type 0
 AllShort [] = Unit
-AllShort (d ∷ l) = (d .delay .0 ≤ 2 ^ 40) × (AllShort l)
+AllShort (d ∷ l) = (d .delay .0 ≤ delayMax) × (AllShort l)
 
 -- what a lookup from a place on finds, as a place (`delay_place`)
 pub record Placed (l : List DelaySegment) (count from t r : ℕ) : Type 0 where

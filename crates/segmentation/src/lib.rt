@@ -7,9 +7,10 @@ use units::Rate;
 use units::TxData;
 use units::Volume;
 ghost use mathlib.Core.Path.{_≡_};
-ghost use Prim.Native.Nat.{ℕ, _+_, _-_, _*_, _/_, _<_, _≤_, _^_, min, max};
+ghost use Prim.Native.Nat.{ℕ, _+_, _-_, _*_, _/_, _<_, _≤_, min, max};
 ghost use lib.ListN.{length, take, drop};
 ghost use mathlib.Core.List.{List, [], _∷_};
+ghost use Rattle.units.specs.Limits.{dateMax, volumeMax, segmentsMax};
 ghost use Rattle.segmentation.specs.Capacity.{rateOf, capacity};
 ghost use Rattle.segmentation.specs.End.{byDeadline, endOf};
 ghost use Rattle.segmentation.specs.Delay.{delaysOf, answerOf, answerWith};
@@ -51,11 +52,11 @@ pub enum Delays {
 }
 
 impl RateSegment {
-    pub const COUNT_MAX: usize = 16;
+    pub const COUNT_MAX: usize = Interval::SEGMENTS_MAX;
 }
 
 impl DelaySegment {
-    pub const COUNT_MAX: usize = 16;
+    pub const COUNT_MAX: usize = Interval::SEGMENTS_MAX;
 }
 
 impl VolumeSegment {
@@ -78,7 +79,7 @@ impl VolumeSegment {
     // What the segment carries between two dates.
     pub fn part(self, start: Date, end: Date) -> Volume
         requires { ⌜ SegOk self ⌝ }
-        ensures { λ r. ⌜ r .0 ≡ capacity (self ∷ []) (start .0) (end .0) ⌝ ∗ ⌜ r .0 ≤ 2 ^ 38 ⌝ }
+        ensures { λ r. ⌜ r .0 ≡ capacity (self ∷ []) (start .0) (end .0) ⌝ ∗ ⌜ r .0 ≤ volumeMax ⌝ }
     {
         let lo = units::later(start, self.start);
         let hi = units::sooner(end, self.end);
@@ -108,7 +109,7 @@ pub fn find_end(
     size: Volume,
     deadline: Date,
 ) -> End
-    requires { ⌜ count ≤ 16 ⌝ ∗ ⌜ 0 < size .0 ⌝ ∗ ⌜ Covers (start .0) (take count rates) ⌝ }
+    requires { ⌜ count ≤ segmentsMax ⌝ ∗ ⌜ 0 < size .0 ⌝ ∗ ⌜ Covers (start .0) (take count rates) ⌝ }
     ensures { λ r. ⌜ r ≡ endOf (take count rates) (start .0) (size .0) (deadline .0) ⌝ }
 {
     let mut i: usize = 0;
@@ -138,7 +139,7 @@ pub fn volume_between(
     start: Date,
     end: Date,
 ) -> Volume
-    requires { ⌜ count ≤ 16 ⌝ ∗ ⌜ Runs (take count rates) ⌝ }
+    requires { ⌜ count ≤ segmentsMax ⌝ ∗ ⌜ Runs (take count rates) ⌝ }
     ensures { λ r. ⌜ r .0 ≡ capacity (take count rates) (start .0) (end .0) ⌝ }
 {
     let mut i: usize = 0;
@@ -161,7 +162,7 @@ pub fn delay_place(
     from: usize,
     date: Date,
 ) -> usize
-    requires { ⌜ count ≤ 16 ⌝ ∗ ⌜ from ≤ count ⌝ }
+    requires { ⌜ count ≤ segmentsMax ⌝ ∗ ⌜ from ≤ count ⌝ }
     ensures { λ r. ⌜ Placed (take count delays) count from (date .0) r ⌝ }
 {
     let mut i = from;
@@ -183,7 +184,7 @@ pub fn find_delays(
     count: usize,
     send: Interval,
 ) -> Delays
-    requires { ⌜ count ≤ 16 ⌝ }
+    requires { ⌜ count ≤ segmentsMax ⌝ }
     ensures { λ r. ⌜ r ≡ delaysOf (take count delays) (send .start .0) (send .end .0) ⌝ }
 {
     let start = send.start;
@@ -202,7 +203,7 @@ pub fn find_delays(
 
 // The answer to a dry run that found this send interval.
 pub fn answer(send: Interval, delays: Delays) -> Offer
-    requires { ⌜ (send .start .0 ≤ 2 ^ 40) × (send .end .0 ≤ 2 ^ 40) ⌝ ∗ ⌜ Short delays ⌝ }
+    requires { ⌜ (send .start .0 ≤ dateMax) × (send .end .0 ≤ dateMax) ⌝ ∗ ⌜ Short delays ⌝ }
     ensures { λ r. ⌜ r ≡ answerOf (send .start .0) (send .end .0) delays ⌝ }
 {
     let start = send.start;
@@ -228,7 +229,7 @@ pub fn answer_at(
     count: usize,
     send: Interval,
 ) -> Offer
-    requires { ⌜ count ≤ 16 ⌝ ∗ ⌜ AllShort (take count delays) ⌝ ∗ ⌜ (send .start .0 ≤ 2 ^ 40) × (send .end .0 ≤ 2 ^ 40) ⌝ }
+    requires { ⌜ count ≤ segmentsMax ⌝ ∗ ⌜ AllShort (take count delays) ⌝ ∗ ⌜ (send .start .0 ≤ dateMax) × (send .end .0 ≤ dateMax) ⌝ }
     ensures { λ r. ⌜ r ≡ answerWith (take count delays) send ⌝ }
 {
     let found = find_delays(delays, count, send);

@@ -9,7 +9,7 @@ ghost use Rattle.text.specs.Text.{digitOf, byteText, wordText, numberTex
 ghost use Rattle.text.specs.Line.{room, written};
 
 // The longest answer: a number, a count and 64 segments of three numbers of 8 bytes, two digits a byte, and the line end.
-pub const LINE: usize = 3077;
+pub const LINE: usize = 2 * (2 + 24 * Interval::LISTED_MAX) + 1;
 
 fn digit(v: u8) -> u8
     requires { ⌜ v < 16 ⌝ }

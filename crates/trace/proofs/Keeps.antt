@@ -4,6 +4,7 @@ use mathlib.Core.Bool.{true}
 use mathlib.Core.List.{List}
 use mathlib.Core.Path.{_≡_, sym, ap, _∙_}
 use lib.Dec.{eqb}
+use Rattle.units.specs.Limits.{priorityMax}
 use Rattle.units.specs.declared.Date.{Date}
 use Rattle.units.specs.declared.Bundle.{Bundle}
 use Rattle.units.specs.declared.TxData.{TxData}
@@ -106,7 +107,7 @@ module _ (h : Held) (ok : heldOk h ≡ true) where
       priority-none : refusalOf (dryRunPriority (h .priority) at b) d ≡ 0
       priority-none = ap (λ (x : Offer). refusalOf x d) (sym is) ∙ none
 
-      pub priority-most : b .priority .0 ≤ 127
+      pub priority-most : b .priority .0 ≤ priorityMax
       priority-most = dry-done _ at b d (priority-ok e) priority-none .1
 
       pub priority-set : {x : Set} → x ≡ setList (h .priority) (d .send) (b .priority .0)

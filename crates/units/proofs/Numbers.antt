@@ -5,6 +5,7 @@ use mathlib.Core.Logic.{⊎-elim, _⊎_, inl, inr}
 use native.Mathlib.Nat.{mul-le-mul, lt-of-le-of-lt, eq-or-lt-of-le}
 use native.Mathlib.Omega.{arith}
 use lib.Dec.{lit<}
+use Rattle.units.specs.Limits.{lengthMax, volumeMax}
 
 pub le-or-lt : (n m : ℕ) → (n ≤ m) ⊎ (m < n)
 le-or-lt zero m = inl (omega arith)
@@ -16,5 +17,5 @@ eq-or-ne n m =
     ⊎-elim (λ h. ⊎-elim (λ e. inl e) (λ l. inr (λ e. omega arith)) (eq-or-lt-of-le h)) (λ h. inr (λ e. omega arith)) (le-or-lt n m)
 
 -- a volume or rate times a length fits in 64 bits
-pub fits62 : {a b : ℕ} → a ≤ 2 ^ 38 → b ≤ 2 ^ 24 → a * b < 2 ^ 64
+pub fits62 : {a b : ℕ} → a ≤ volumeMax → b ≤ lengthMax → a * b < 2 ^ 64
 fits62 ha hb = lt-of-le-of-lt (mul-le-mul ha hb) (lit< tt)

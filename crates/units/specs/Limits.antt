@@ -1,4 +1,4 @@
--- 01, "Numbers": the limits that a call's own figures and a window are held to.
+-- 01, "Numbers": the limits that more than one kind of record is held to, each once; all else cites them.
 use Prim.Native.Nat.{ℕ, _-_, _^_}
 use mathlib.Core.Bool.{Bool}
 use lib.Dec.{leb, ltb}
@@ -25,6 +25,13 @@ delayMax = 2 ^ 40
 
 abbrev pub priorityMax : ℕ
 priorityMax = 127
+
+-- at most 16 rate and 16 delay segments, 64 listed segments
+abbrev pub segmentsMax : ℕ
+segmentsMax = 16
+
+abbrev pub listedMax : ℕ
+listedMax = 64
 
 -- a window: start < end, a length of at most 2^24, dates to 2^40
 unfoldable pub windowOk : Interval → Bool

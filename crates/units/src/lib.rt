@@ -1,7 +1,7 @@
 // The numbers of document 01 with their units, and the words that every manager answers in.
 ghost use mathlib.Core.Path.{_≡_};
-ghost use Prim.Native.Nat.{_+_, _≤_, _^_, min, max};
-ghost use Rattle.units.specs.Limits.{bundleOk, loadOk, windowOk};
+ghost use Prim.Native.Nat.{_+_, _≤_, min, max};
+ghost use Rattle.units.specs.Limits.{dateMax, delayMax, bundleOk, loadOk, windowOk};
 ghost use Rattle.units.specs.Answer.{refused, sameDates, offers};
 ghost use Rattle.units.specs.Granted.{refusalOf};
 
@@ -51,11 +51,11 @@ pub struct Offer {
 }
 
 impl Date {
-    pub const MAX: u64 = 1_099_511_627_776;
+    pub const MAX: u64 = 1 << 40;
 
     // The date at which what leaves at this one arrives.
     pub fn after(self, delay: Delay) -> Date
-        requires { ⌜ (self .0 ≤ 2 ^ 40) × (delay .0 ≤ 2 ^ 40) ⌝ }
+        requires { ⌜ (self .0 ≤ dateMax) × (delay .0 ≤ delayMax) ⌝ }
         ensures { λ r. ⌜ r .0 ≡ self .0 + delay .0 ⌝ }
     {
         Date(self.0 + delay.0)
@@ -63,15 +63,15 @@ impl Date {
 }
 
 impl Volume {
-    pub const MAX: u64 = 274_877_906_944;
+    pub const MAX: u64 = 1 << 38;
 }
 
 impl Rate {
-    pub const MAX: u64 = 274_877_906_944;
+    pub const MAX: u64 = 1 << 38;
 }
 
 impl Delay {
-    pub const MAX: u64 = 1_099_511_627_776;
+    pub const MAX: u64 = 1 << 40;
 }
 
 impl Priority {
@@ -79,7 +79,12 @@ impl Priority {
 }
 
 impl Interval {
-    pub const LENGTH_MAX: u64 = 16_777_216;
+    pub const LENGTH_MAX: u64 = 1 << 24;
+
+    // The parts that a record keeps of its window: rate or delay segments, and listed ones.
+    pub const SEGMENTS_MAX: usize = 16;
+
+    pub const LISTED_MAX: usize = 64;
 
     // Is this a contact's window? (contact.rs: ContactInfo::try_init, with 01's limits)
     pub fn is_window(self) -> bool

@@ -1,5 +1,5 @@
 -- Each public call's promise determines its answer, and all the numbers that a write leaves. `Post` is the reading of the contract in src/.
-use Prim.Native.Nat.{ℕ, _≤_}
+use Prim.Native.Nat.{ℕ, _*_, _≤_}
 use mathlib.Core.Path.{_≡_, sym, ap, _∙_}
 use mathlib.Core.List.{List}
 use native.Mathlib.Omega.{arith}
@@ -7,6 +7,7 @@ use lib.ListN.{length}
 use borrow.Fn.Kinds.{Dens, endedOf}
 use denote.Triple.Clauses.{AtExit}
 use contract.Lifetimes.{Lfts}
+use Rattle.units.specs.Limits.{segmentsMax, listedMax}
 use Rattle.units.proofs.Determined.{Determined}
 use Rattle.units.proofs.Unique.{volume-is}
 use Rattle.segmentation.proofs.Unique as segmentation-unique
@@ -34,7 +35,7 @@ use Rattle.words.proofs.answer_at.Reads as answer-at-reads
 
 -- the numbers are what stands behind the reference at the end, as many as the array has
 abbrev pub Leaves : {X : Type 0} → (X → List ℕ) → (X → Type 0) → List ℕ → X → Type 0
-Leaves behind P l x = (l ≡ behind x) × (length l ≡ 192) × P x
+Leaves behind P l x = (l ≡ behind x) × (length l ≡ 3 * listedMax) × P x
 
 module _ (κs : Lfts 1) where
   pub rate-at-unique : (a : Dens κs rate-at-kinds.ps) → Determined (rate-at-reads.Post κs a)
@@ -48,7 +49,7 @@ module _ (κs : Lfts 1) where
 
   pub put-at-unique : (a : Dens κs put-at-kinds.ps)
       → Determined (Leaves (λ (s : AtExit (endedOf 1 put-at-kinds.ps put-at-kinds.r) κs). s .0 .now) (put-at-reads.Post κs a tt))
-  put-at-unique a r q x y f g = same-numbers r q 64 (f .1) (g .1) (ap volumesIn (f .0) ∙ f .2 ∙ sym (ap volumesIn (g .0) ∙ g .2))
+  put-at-unique a r q x y f g = same-numbers r q listedMax (f .1) (g .1) (ap volumesIn (f .0) ∙ f .2 ∙ sym (ap volumesIn (g .0) ∙ g .2))
 
   pub find-end-unique : (a : Dens κs find-end-kinds.ps) → Determined (find-end-reads.Post κs a)
   find-end-unique a r q x y f g = f ∙ sym g
@@ -57,10 +58,10 @@ module _ (κs : Lfts 1) where
   volume-between-unique a r q x y f g = volume-is r q _ f g
 
   -- the delays are as many as the array has
-  pub delay-place-unique : (a : Dens κs delay-place-kinds.ps) → length (a .0 .now) ≡ 48 → a .1 .0 ≤ 16 → Determined (delay-place-reads.Post κs a)
+  pub delay-place-unique : (a : Dens κs delay-place-kinds.ps) → length (a .0 .now) ≡ 3 * segmentsMax → a .1 .0 ≤ segmentsMax → Determined (delay-place-reads.Post κs a)
   delay-place-unique a len le r q x y f g =
       let l = delaysIn (a .0 .now) in
-      let more : a .1 .0 ≤ length l = omega (arith, threes-length delayFrom (a .0 .now) 16 len) in
+      let more : a .1 .0 ≤ length l = omega (arith, threes-length delayFrom (a .0 .now) segmentsMax len) in
       segmentation-unique.delay-place-unique l (a .1 .0) (a .1 .1 .0) (a .1 .1 .1 .0) more r q (l, a .1) (l, a .1) f g
 
   pub find-delays-unique : (a : Dens κs find-delays-kinds.ps) → Determined (find-delays-reads.Post κs a)

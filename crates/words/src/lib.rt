@@ -9,8 +9,9 @@ use units::Interval;
 use units::Offer;
 use units::Volume;
 ghost use mathlib.Core.Path.{_≡_};
-ghost use Prim.Native.Nat.{_<_, _≤_, _^_};
+ghost use Prim.Native.Nat.{_<_, _≤_};
 ghost use lib.ListN.{take, getD, set};
+ghost use Rattle.units.specs.Limits.{dateMax, segmentsMax, listedMax};
 ghost use Rattle.segmentation.specs.Capacity.{capacity};
 ghost use Rattle.segmentation.specs.End.{endOf};
 ghost use Rattle.segmentation.specs.Delay.{delaysOf, answerWith};
@@ -18,12 +19,17 @@ ghost use Rattle.segmentation.specs.Granted.{Covers, Runs, AllShort, Placed};
 ghost use Rattle.contact.specs.Segments.{zeroVolume, zeroDelay};
 ghost use Rattle.words.specs.Words.{volumesIn, delaysIn};
 
+// The numbers of as many segments as a record has places for, three to a segment.
+pub const SEGMENTS: usize = 3 * Interval::SEGMENTS_MAX;
+
+pub const LISTED: usize = 3 * Interval::LISTED_MAX;
+
 // Lent as a slice, an array tells its length; no code is left of it.
 fn told(words: &[u64]) {}
 
 // The rate segment at a place.
-pub fn rate_at(rates: &[u64; 48], i: usize) -> VolumeSegment
-    requires { ⌜ i < 16 ⌝ }
+pub fn rate_at(rates: &[u64; SEGMENTS], i: usize) -> VolumeSegment
+    requires { ⌜ i < segmentsMax ⌝ }
     ensures { λ r. ⌜ r ≡ getD (volumesIn (now (rates .entry))) i zeroVolume ⌝ }
 {
     told(rates);
@@ -36,8 +42,8 @@ pub fn rate_at(rates: &[u64; 48], i: usize) -> VolumeSegment
 }
 
 // The delay segment at a place.
-pub fn delay_at(delays: &[u64; 48], i: usize) -> DelaySegment
-    requires { ⌜ i < 16 ⌝ }
+pub fn delay_at(delays: &[u64; SEGMENTS], i: usize) -> DelaySegment
+    requires { ⌜ i < segmentsMax ⌝ }
     ensures { λ r. ⌜ r ≡ getD (delaysIn (now (delays .entry))) i zeroDelay ⌝ }
 {
     told(delays);
@@ -50,8 +56,8 @@ pub fn delay_at(delays: &[u64; 48], i: usize) -> DelaySegment
 }
 
 // The listed segment at a place.
-pub fn listed_at(free: &[u64; 192], i: usize) -> VolumeSegment
-    requires { ⌜ i < 64 ⌝ }
+pub fn listed_at(free: &[u64; LISTED], i: usize) -> VolumeSegment
+    requires { ⌜ i < listedMax ⌝ }
     ensures { λ r. ⌜ r ≡ getD (volumesIn (now (free .entry))) i zeroVolume ⌝ }
 {
     told(free);
@@ -64,8 +70,8 @@ pub fn listed_at(free: &[u64; 192], i: usize) -> VolumeSegment
 }
 
 // Lists a segment at a place, over the one there.
-pub fn put_at(free: &mut [u64; 192], i: usize, s: VolumeSegment)
-    requires { ⌜ i < 64 ⌝ }
+pub fn put_at(free: &mut [u64; LISTED], i: usize, s: VolumeSegment)
+    requires { ⌜ i < listedMax ⌝ }
     ensures { λ r. ⌜ volumesIn (now (free .exit)) ≡ set (volumesIn (now (free .entry))) i s ⌝ }
 {
     told(free);
@@ -76,8 +82,14 @@ pub fn put_at(free: &mut [u64; 192], i: usize, s: VolumeSegment)
 }
 
 // get_tx_end: the end of a send of this size from this start, by the deadline, or none.
-pub fn find_end(rates: &[u64; 48], count: usize, start: Date, size: Volume, deadline: Date) -> End
-    requires { ⌜ count ≤ 16 ⌝ ∗ ⌜ 0 < size .0 ⌝ ∗ ⌜ Covers (start .0) (take count (volumesIn (now rates))) ⌝ }
+pub fn find_end(
+    rates: &[u64; SEGMENTS],
+    count: usize,
+    start: Date,
+    size: Volume,
+    deadline: Date,
+) -> End
+    requires { ⌜ count ≤ segmentsMax ⌝ ∗ ⌜ 0 < size .0 ⌝ ∗ ⌜ Covers (start .0) (take count (volumesIn (now rates))) ⌝ }
     ensures { λ r. ⌜ r ≡ endOf (take count (volumesIn (now (rates .entry)))) (start .0) (size .0) (deadline .0) ⌝ }
 {
     told(rates);
@@ -102,8 +114,8 @@ pub fn find_end(rates: &[u64; 48], count: usize, start: Date, size: Volume, dead
 }
 
 // get_volume: the exact capacity between two dates.
-pub fn volume_between(rates: &[u64; 48], count: usize, start: Date, end: Date) -> Volume
-    requires { ⌜ count ≤ 16 ⌝ ∗ ⌜ Runs (take count (volumesIn (now rates))) ⌝ }
+pub fn volume_between(rates: &[u64; SEGMENTS], count: usize, start: Date, end: Date) -> Volume
+    requires { ⌜ count ≤ segmentsMax ⌝ ∗ ⌜ Runs (take count (volumesIn (now rates))) ⌝ }
     ensures { λ r. ⌜ r .0 ≡ capacity (take count (volumesIn (now (rates .entry)))) (start .0) (end .0) ⌝ }
 {
     told(rates);
@@ -121,8 +133,8 @@ pub fn volume_between(rates: &[u64; 48], count: usize, start: Date, end: Date) -
 }
 
 // The place of the first delay segment, from a place on, whose end is not before the date; the count, where there is none.
-pub fn delay_place(delays: &[u64; 48], count: usize, from: usize, date: Date) -> usize
-    requires { ⌜ count ≤ 16 ⌝ ∗ ⌜ from ≤ count ⌝ }
+pub fn delay_place(delays: &[u64; SEGMENTS], count: usize, from: usize, date: Date) -> usize
+    requires { ⌜ count ≤ segmentsMax ⌝ ∗ ⌜ from ≤ count ⌝ }
     ensures { λ r. ⌜ Placed (take count (delaysIn (now (delays .entry)))) count from (date .0) r ⌝ }
 {
     told(delays);
@@ -140,8 +152,8 @@ pub fn delay_place(delays: &[u64; 48], count: usize, from: usize, date: Date) ->
 }
 
 // get_delays: the delays at both ends of a send interval; the end's lookup goes on from the start's.
-pub fn find_delays(delays: &[u64; 48], count: usize, send: Interval) -> Delays
-    requires { ⌜ count ≤ 16 ⌝ }
+pub fn find_delays(delays: &[u64; SEGMENTS], count: usize, send: Interval) -> Delays
+    requires { ⌜ count ≤ segmentsMax ⌝ }
     ensures { λ r. ⌜ r ≡ delaysOf (take count (delaysIn (now (delays .entry)))) (send .start .0) (send .end .0) ⌝ }
 {
     told(delays);
@@ -160,8 +172,8 @@ pub fn find_delays(delays: &[u64; 48], count: usize, send: Interval) -> Delays
 }
 
 // The answer to a dry run that found this send interval.
-pub fn answer_at(delays: &[u64; 48], count: usize, send: Interval) -> Offer
-    requires { ⌜ count ≤ 16 ⌝ ∗ ⌜ AllShort (take count (delaysIn (now delays))) ⌝ ∗ ⌜ (send .start .0 ≤ 2 ^ 40) × (send .end .0 ≤ 2 ^ 40) ⌝ }
+pub fn answer_at(delays: &[u64; SEGMENTS], count: usize, send: Interval) -> Offer
+    requires { ⌜ count ≤ segmentsMax ⌝ ∗ ⌜ AllShort (take count (delaysIn (now delays))) ⌝ ∗ ⌜ (send .start .0 ≤ dateMax) × (send .end .0 ≤ dateMax) ⌝ }
     ensures { λ r. ⌜ r ≡ answerWith (take count (delaysIn (now (delays .entry)))) send ⌝ }
 {
     let found = find_delays(delays, count, send);

@@ -1,10 +1,11 @@
 -- `booking_words::find_run` meets its contract: from the present state on, the segments left have the answer of all, and an offer is the answer.
 use borrow.Author.Needs.{needs}
-use Prim.Native.Nat.{_+_, _-_, _<_, _≤_}
+use Prim.Native.Nat.{_+_, _-_, _*_, _<_, _≤_}
 use mathlib.Core.Path.{_≡_, sym, ap, _∙_}
 use mathlib.Core.List.{List, _∷_}
 use native.Mathlib.Omega.{arith}
 use lib.ListN.{length, take, drop}
+use Rattle.units.specs.Limits.{listedMax}
 use Rattle.units.proofs.Loop.{Left, left-first, left-here, left-step}
 use Rattle.units.proofs.Places.{place-end}
 use Rattle.bookings.specs.declared.BookingSegment.{BookingSegment}
@@ -25,7 +26,7 @@ Inv-loop rates m bookings n asked size priority deadline i₀ going₀ run₀ i 
 abbrev μ-loop : tie.MeasureT-loop
 μ-loop rates m bookings n asked size priority deadline i₀ going₀ run₀ i going run = n - i
 
-size-of : (c : tie.After-told-arg Inv-loop μ-loop) → length (c .before .args .bookings .now) ≡ 192
+size-of : (c : tie.After-told-arg Inv-loop μ-loop) → length (c .before .args .bookings .now) ≡ 3 * listedMax
 size-of c = search needs
 
 abbrev told-at : tie.After-booked-at Inv-loop μ-loop → tie.After-told-arg Inv-loop μ-loop
@@ -43,7 +44,7 @@ here : (c : tie.After-booked-at Inv-loop μ-loop)
     ≡ c .booked-at .result ∷ drop (c .before .before .before .loop .i + 1) (list (told-at c .before))
 here c =
     let told = told-at c in
-    first-at bookingFrom _ 64 _ (size-of told) (told .before .pre .1 .1 .1 .0) _ _ _ (inside (c .before)) (c .booked-at .ensures)
+    first-at bookingFrom _ listedMax _ (size-of told) (told .before .pre .1 .1 .1 .0) _ _ _ (inside (c .before)) (c .booked-at .ensures)
 
 -- it starts in the window
 in-window : (c : tie.After-booked-at Inv-loop μ-loop) → told-at c .before .args .window .start .0 ≤ c .booked-at .result .start .0
@@ -52,7 +53,7 @@ in-window c =
     let a = told .before .args in
     let p = told .before .pre .1 .1 .1 in
     let l = bookingsIn (a .bookings .now) in
-    let more : a .n ≤ length l = omega (arith, threes-length bookingFrom (a .bookings .now) 64 (size-of told), p .0) in
+    let more : a .n ≤ length l = omega (arith, threes-length bookingFrom (a .bookings .now) listedMax (size-of told), p .0) in
     let from = from-at (a .window .start .0) zeroBooking l (a .n) (c .before .before .before .loop .i) more (inside (c .before)) (p .1) in
     omega (arith, ap (λ (g : BookingSegment). g .start .0) (c .booked-at .ensures), from)
 

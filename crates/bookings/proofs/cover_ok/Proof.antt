@@ -6,6 +6,7 @@ use mathlib.Core.Bool.{true}
 use mathlib.Core.Path.{_≡_, sym, _∙_}
 use native.Mathlib.Omega.{arith}
 use lib.ListN.{length, take}
+use Rattle.units.specs.Limits.{listedMax}
 use Rattle.units.proofs.Loop.{Left, left-first}
 use Rattle.units.proofs.Places.{place-end, place-step}
 use Rattle.bookings.proofs.CoverLaws.{coverOn, cover-whole, cover-turn, cover-bad, cover-last}
@@ -19,7 +20,7 @@ abbrev μ-loop : tie.MeasureT-loop
 μ-loop n segments hi i₀ at₀ good₀ i at good = n - i
 
 size : (c : tie.Start Inv-loop μ-loop) → c .args .n ≤ length (c .args .t1)
-size c = let e : length (c .args .t1) ≡ 64 = search needs in omega arith
+size c = let e : length (c .args .t1) ≡ listedMax = search needs in omega arith
 
 loop-holds : tie.Need-loop-holds Inv-loop μ-loop
 loop-holds c = left-first _ _ _ _

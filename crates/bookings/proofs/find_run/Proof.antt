@@ -4,6 +4,7 @@ use Prim.Native.Nat.{_-_, _<_, _≤_}
 use mathlib.Core.Path.{_≡_, sym, _∙_}
 use native.Mathlib.Omega.{arith}
 use lib.ListN.{length, take}
+use Rattle.units.specs.Limits.{listedMax}
 use Rattle.units.proofs.Loop.{Left, left-first}
 use Rattle.units.proofs.Places.{place-end, place-here, place-step}
 use Rattle.bookings.specs.declared.Run.the-variants.{Idle}
@@ -21,7 +22,7 @@ abbrev μ-loop : tie.MeasureT-loop
 μ-loop rates m n asked size priority segments deadline i₀ going₀ run₀ i going run = n - i
 
 size : (c : tie.Start Inv-loop μ-loop) → c .args .n ≤ length (c .args .t4)
-size c = let e : length (c .args .t4) ≡ 64 = search needs in omega arith
+size c = let e : length (c .args .t4) ≡ listedMax = search needs in omega arith
 
 inside : (c : tie.Else1 Inv-loop μ-loop) → c .before .before .loop .i < c .before .before .before .before .args .n
 inside c = omega (arith, c .if1 .left)

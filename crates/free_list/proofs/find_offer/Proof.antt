@@ -5,6 +5,7 @@ use mathlib.Core.Path.{_≡_, sym, ap, _∙_}
 use native.Mathlib.Omega.{arith}
 use lib.ListN.{length, take, getD, length-take}
 use lib.Seq.{getD-take}
+use Rattle.units.specs.Limits.{listedMax}
 use Rattle.units.specs.Answer.{interval}
 use Rattle.units.proofs.Loop.{Left, left-first}
 use Rattle.units.proofs.Places.{place-end, place-here, place-step}
@@ -24,7 +25,7 @@ abbrev μ-loop : tie.MeasureT-loop
 μ-loop rates m n asked size segments i₀ i = n - i
 
 room : (c : tie.Start Inv-loop μ-loop) → c .args .n ≤ length (c .args .t3)
-room c = let e : length (c .args .t3) ≡ 64 = search needs in omega arith
+room c = let e : length (c .args .t3) ≡ listedMax = search needs in omega arith
 
 abbrev rule : (c : tie.Start Inv-loop μ-loop) → Rule
 rule c = endOf (take (c .args .m) (c .args .rates))

@@ -4,6 +4,7 @@ use Prim.Native.Nat.{_<_}
 use mathlib.Core.Path.{_≡_}
 use native.Mathlib.Omega.{arith}
 use lib.ListN.{length}
+use Rattle.units.specs.Limits.{listedMax}
 use Rattle.contact.specs.Segments.{zeroVolume}
 use Rattle.free_list.proofs.Shift.{Moved, moved-first, moved-turn, moved-last}
 use Rattle.free_list.proofs.insert.Statement.{statement}
@@ -16,7 +17,7 @@ abbrev μ-loop : tie.MeasureT-loop
 μ-loop n i s a₀ j₀ a j = j
 
 room : (c : tie.Start Inv-loop μ-loop) → c .args .n < length (c .args .segments)
-room c = let e : length (c .args .segments) ≡ 64 = search needs in omega arith
+room c = let e : length (c .args .segments) ≡ listedMax = search needs in omega arith
 
 loop-holds : tie.Need-loop-holds Inv-loop μ-loop
 loop-holds c = moved-first _ _ zeroVolume (room c) _ (c .pre .0)

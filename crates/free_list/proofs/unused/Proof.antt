@@ -5,18 +5,19 @@ use Prim.Native.Nat.{_-_}
 use mathlib.Core.Path.{_≡_, sym, _∙_}
 use native.Mathlib.Omega.{arith}
 use lib.ListN.{length}
+use Rattle.units.specs.Limits.{listedMax}
 use Rattle.units.proofs.Unused.{Rest, rest-first, rest-end, rest-stop, rest-step}
 use Rattle.contact.specs.Segments.{noVolume}
 use Rattle.free_list.proofs.unused.Statement.{statement}
 use Rattle.free_list.proofs.unused.Tie as tie
 
 abbrev Inv-loop : tie.InvT-loop
-Inv-loop count segments i₀ i = Rest noVolume segments 64 count i
+Inv-loop count segments i₀ i = Rest noVolume segments listedMax count i
 
 abbrev μ-loop : tie.MeasureT-loop
-μ-loop count segments i₀ i = 64 - i
+μ-loop count segments i₀ i = listedMax - i
 
-size : (c : tie.Start Inv-loop μ-loop) → length (c .args .t1) ≡ 64
+size : (c : tie.Start Inv-loop μ-loop) → length (c .args .t1) ≡ listedMax
 size c = search needs
 
 loop-holds : tie.Need-loop-holds Inv-loop μ-loop

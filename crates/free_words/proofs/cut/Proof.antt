@@ -1,8 +1,10 @@
 -- `free_words::cut` meets its contract: at the segment's start it is the list's cut, with the list's room; elsewhere `cut_inside` is.
 use borrow.Author.Needs.{needs}
+use Prim.Native.Nat.{_*_}
 use mathlib.Core.Path.{_≡_, ap, _∙_}
 use native.Mathlib.Omega.{arith}
 use lib.ListN.{length, take}
+use Rattle.units.specs.Limits.{listedMax}
 use Rattle.segmentation.specs.declared.VolumeSegment.{VolumeSegment}
 use Rattle.free_list.specs.Granted.{Inside, Roomy}
 use Rattle.words.specs.Words.{volumeFrom, volumesIn}
@@ -12,11 +14,11 @@ use Rattle.free_words.proofs.CutHere.{leaves-start, makes-start, made-i
 use Rattle.free_words.proofs.cut.Statement.{statement}
 use Rattle.free_words.proofs.cut.Tie as tie
 
-size-of : (c : tie.After-told-arg2) → length (c .before .before .args .free .now) ≡ 192
+size-of : (c : tie.After-told-arg2) → length (c .before .before .args .free .now) ≡ 3 * listedMax
 size-of c = search needs
 
-size : (c : tie.After-told-arg2) → length (volumesIn (c .before .before .args .free .now)) ≡ 64
-size c = threes-length volumeFrom (c .before .before .args .free .now) 64 (size-of c)
+size : (c : tie.After-told-arg2) → length (volumesIn (c .before .before .args .free .now)) ≡ listedMax
+size c = threes-length volumeFrom (c .before .before .args .free .now) listedMax (size-of c)
 
 inside : (c : tie.Start) → Inside (freeIn (c .args .free .now) (c .args .count .now)) (c .args .place) (c .args .size .0)
 inside c = c .pre .1 .1 .0

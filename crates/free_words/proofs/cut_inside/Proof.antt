@@ -1,9 +1,10 @@
 -- `free_words::cut_inside` meets its contract: what comes before the booking, and what comes after it, are the list's cut, and its room is the list's.
 use borrow.Author.Needs.{needs}
-use Prim.Native.Nat.{_+_}
+use Prim.Native.Nat.{_+_, _*_}
 use mathlib.Core.Path.{_≡_, sym, ap, _∙_}
 use native.Mathlib.Omega.{arith}
 use lib.ListN.{length, take}
+use Rattle.units.specs.Limits.{listedMax}
 use Rattle.segmentation.specs.declared.VolumeSegment.{VolumeSegment}
 use Rattle.free_list.specs.Cut.{cutList}
 use Rattle.free_list.specs.Granted.{Inside, Roomy}
@@ -14,11 +15,11 @@ use Rattle.free_words.proofs.CutHere.{leaves-flat, leaves-full, leaves-
 use Rattle.free_words.proofs.cut_inside.Statement.{statement}
 use Rattle.free_words.proofs.cut_inside.Tie as tie
 
-size-of : (c : tie.After-told-arg2) → length (c .before .before .args .free .now) ≡ 192
+size-of : (c : tie.After-told-arg2) → length (c .before .before .args .free .now) ≡ 3 * listedMax
 size-of c = search needs
 
-size : (c : tie.After-told-arg2) → length (volumesIn (c .before .before .args .free .now)) ≡ 64
-size c = threes-length volumeFrom (c .before .before .args .free .now) 64 (size-of c)
+size : (c : tie.After-told-arg2) → length (volumesIn (c .before .before .args .free .now)) ≡ listedMax
+size c = threes-length volumeFrom (c .before .before .args .free .now) listedMax (size-of c)
 
 inside : (c : tie.Start) → Inside (freeIn (c .args .free .now) (c .args .count .now)) (c .args .place) (c .args .size .0)
 inside c = c .pre .1 .1 .0

@@ -1,11 +1,12 @@
 -- `free_words::find_offer` meets its contract. The invariant: the segments left have the offer that is asked, at the loop's place on.
 use borrow.Author.Needs.{needs}
-use Prim.Native.Nat.{ℕ, _+_, _-_, _<_, _≤_, max}
+use Prim.Native.Nat.{ℕ, _+_, _-_, _*_, _<_, _≤_, max}
 use mathlib.Core.Path.{_≡_, sym, ap, _∙_}
 use mathlib.Core.List.{List, _∷_}
 use native.Mathlib.Omega.{arith}
 use lib.ListN.{length, take, drop}
 use lib.Seq.{getD-take}
+use Rattle.units.specs.Limits.{listedMax}
 use Rattle.units.specs.Answer.{interval}
 use Rattle.units.proofs.Loop.{Left, left-first, left-end, left-here, left-step}
 use Rattle.segmentation.specs.declared.VolumeSegment.{VolumeSegment}
@@ -27,7 +28,7 @@ Inv-loop rates m free n asked size i₀ i =
 abbrev μ-loop : tie.MeasureT-loop
 μ-loop rates m free n asked size i₀ i = n - i
 
-size-of : (c : tie.After-told-arg Inv-loop μ-loop) → length (c .before .args .free .now) ≡ 192
+size-of : (c : tie.After-told-arg Inv-loop μ-loop) → length (c .before .args .free .now) ≡ 3 * listedMax
 size-of c = search needs
 
 abbrev rule : (c : tie.Start Inv-loop μ-loop) → Rule
@@ -37,7 +38,7 @@ abbrev list : (c : tie.Start Inv-loop μ-loop) → List VolumeSegment
 list c = take (c .args .n) (volumesIn (c .args .free .now))
 
 count-of : (c : tie.After-told-arg Inv-loop μ-loop) → length (list (c .before)) ≡ c .before .args .n
-count-of c = first-count volumeFrom _ 64 _ (size-of c) (c .before .pre .1 .0)
+count-of c = first-count volumeFrom _ listedMax _ (size-of c) (c .before .pre .1 .0)
 
 kept : (c : tie.Start Inv-loop μ-loop)
     → Listed (take (c .args .m) (volumesIn (c .args .rates .now))) (c .args .window .start .0) (c .args .window .end .0) (list c)
@@ -58,7 +59,7 @@ here : (c : tie.After-listed-at Inv-loop μ-loop)
     ≡ c .listed-at .result ∷ drop (c .before .before .loop .i + 1) (list (c .before .before .before .before .before))
 here c =
     let told = c .before .before .before .before in
-    first-at volumeFrom _ 64 _ (size-of told) (told .before .pre .1 .0) _ _ _ (listed (c .before)) (c .listed-at .ensures)
+    first-at volumeFrom _ listedMax _ (size-of told) (told .before .pre .1 .0) _ _ _ (listed (c .before)) (c .listed-at .ensures)
 
 -- it starts in the window
 inside : (c : tie.After-listed-at Inv-loop μ-loop)

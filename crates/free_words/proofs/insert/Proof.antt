@@ -1,9 +1,10 @@
 -- `free_words::insert` meets its contract. The invariant: the segments from j on are moved up by one.
 use borrow.Author.Needs.{needs}
-use Prim.Native.Nat.{_<_}
+use Prim.Native.Nat.{_*_, _<_}
 use mathlib.Core.Path.{_≡_}
 use native.Mathlib.Omega.{arith}
 use lib.ListN.{length}
+use Rattle.units.specs.Limits.{listedMax}
 use Rattle.contact.specs.Segments.{zeroVolume}
 use Rattle.free_list.proofs.Shift.{Moved, moved-first, moved-turn, moved-last}
 use Rattle.words.specs.Words.{volumeFrom, volumesIn}
@@ -17,11 +18,11 @@ Inv-loop free₀ n i s j₀ free j = Moved (volumesIn free₀) (volumesIn free) 
 abbrev μ-loop : tie.MeasureT-loop
 μ-loop free₀ n i s j₀ free j = j
 
-size-of : (c : tie.After-told-arg2 Inv-loop μ-loop) → length (c .before .before .args .free .now) ≡ 192
+size-of : (c : tie.After-told-arg2 Inv-loop μ-loop) → length (c .before .before .args .free .now) ≡ 3 * listedMax
 size-of c = search needs
 
 room : (c : tie.After-told-arg2 Inv-loop μ-loop) → c .before .before .args .n < length (volumesIn (c .before .before .args .free .now))
-room c = omega (arith, threes-length volumeFrom (c .before .before .args .free .now) 64 (size-of c), c .before .before .pre .1)
+room c = omega (arith, threes-length volumeFrom (c .before .before .args .free .now) listedMax (size-of c), c .before .before .pre .1)
 
 told-requires : tie.Need-told-requires Inv-loop μ-loop
 told-requires c κs = search needs

@@ -2,19 +2,19 @@
 use mathlib.Core.Path.{_≡_, refl}
 use lib.Dec.{lit<}
 use lib.IntN.{ℤ, pos, natAbs, _*ℤ_}
-use Prim.Native.Nat.{ℕ, _≤_, _^_}
+use Prim.Native.Nat.{ℕ, _≤_}
 use mir.Syntax.{w64}
 use mir.Val.{SFits}
 use mir.Facts.{toZ-ofZ}
-use Rattle.poly.specs.Poly.{stepOf, magOf, hornerOf}
+use Rattle.poly.specs.Poly.{stepMax, stepOf, magOf, hornerOf}
 use Rattle.poly.proofs.Back.{rd}
 use Rattle.poly.proofs.Steps.{V3, V2, V1, V0, asks2, asks1, asks0, fits-step, horner-fits}
 use Rattle.poly.proofs.horner.Statement.{statement}
 use Rattle.poly.proofs.horner.Tie as tie
 
 -- a call of `step` on locals that are read back as v, d and c
-module _ (z y x : ℤ) {v d c : ℤ} (k : ℕ) (ev : rd z ≡ v) (ed : rd y ≡ d) (ec : rd x ≡ c) (h : magOf (natAbs v) (natAbs d) c k ≤ 2 ^ 61) where
-  step-asks : magOf (natAbs (rd z)) (natAbs (rd y)) (rd x) k ≤ 2 ^ 61
+module _ (z y x : ℤ) {v d c : ℤ} (k : ℕ) (ev : rd z ≡ v) (ed : rd y ≡ d) (ec : rd x ≡ c) (h : magOf (natAbs v) (natAbs d) c k ≤ stepMax) where
+  step-asks : magOf (natAbs (rd z)) (natAbs (rd y)) (rd x) k ≤ stepMax
   step-asks = rw (ev, ed, ec) h
 
   step-back : {r : ℤ} → r ≡ stepOf (rd z) (rd y) (rd x) k → rd r ≡ stepOf v d c k
@@ -39,13 +39,13 @@ module _ (s : tie.Start) where
   d-back : rd d ≡ d
   d-back = toZ-ofZ (s .fits .d)
 
-  h2 : magOf (natAbs v3) (natAbs d) (s .args .c2) 3 ≤ 2 ^ 61
+  h2 : magOf (natAbs v3) (natAbs d) (s .args .c2) 3 ≤ stepMax
   h2 = asks2 _ _ _ _ d (s .pre)
 
-  h1 : magOf (natAbs v2) (natAbs d) (s .args .c1) 2 ≤ 2 ^ 61
+  h1 : magOf (natAbs v2) (natAbs d) (s .args .c1) 2 ≤ stepMax
   h1 = asks1 _ _ _ _ d (s .pre)
 
-  h0 : magOf (natAbs v1) (natAbs d) (s .args .c0) 1 ≤ 2 ^ 61
+  h0 : magOf (natAbs v1) (natAbs d) (s .args .c0) 1 ≤ stepMax
   h0 = asks0 _ _ _ _ d (s .pre)
 
   value-fits : SFits w64 (v0 *ℤ d)

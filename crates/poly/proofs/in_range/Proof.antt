@@ -2,11 +2,11 @@
 use borrow.Author.Needs.{needs}
 use mathlib.Core.Bool.{true}
 use mathlib.Core.Path.{_≡_, refl, sym, _∙_}
-use Prim.Native.Nat.{ℕ, _*_, _^_}
+use Prim.Native.Nat.{ℕ, _*_}
 use native.Mathlib.Omega.{arith}
 use lib.Dec.{leb}
 use Rattle.units.proofs.Logic.{both-go, both-stop}
-use Rattle.poly.specs.Poly.{rangeOk}
+use Rattle.poly.specs.Poly.{stepMax, rangeOk}
 use Rattle.poly.proofs.Abs.{abs-i64}
 use Rattle.poly.proofs.Capped.{capped, capped-step, capped-within, capped-beyond, capped-test, read-abs, read-quot, read-whole}
 use Rattle.poly.proofs.Steps.{M3, M2, M1, M0}
@@ -80,16 +80,16 @@ last : (c : tie.After-mag-step5) → c .mag-step5 .result ≡ capped (m0 (start0
 last c = c .mag-step5 .ensures ∙ rw (is0 (c .before)) (omega arith)
 
 -- the tests that held
-ok3 : (c : tie.Else1) → leb (m3 (start3 c)) (2 ^ 61) ≡ true
+ok3 : (c : tie.Else1) → leb (m3 (start3 c)) stepMax ≡ true
 ok3 c = capped-within _ _ (at3 (c .before)) (c .if1 .left)
 
-ok2 : (c : tie.Else2) → leb (m2 (start2 c)) (2 ^ 61) ≡ true
+ok2 : (c : tie.Else2) → leb (m2 (start2 c)) stepMax ≡ true
 ok2 c = capped-within _ _ (at2 (c .before)) (c .if2 .left)
 
-ok1 : (c : tie.Else3) → leb (m1 (start1 c)) (2 ^ 61) ≡ true
+ok1 : (c : tie.Else3) → leb (m1 (start1 c)) stepMax ≡ true
 ok1 c = capped-within _ _ (at1 (c .before)) (c .if3 .left)
 
-ok0 : (c : tie.Else4) → leb (m0 (start0 c)) (2 ^ 61) ≡ true
+ok0 : (c : tie.Else4) → leb (m0 (start0 c)) stepMax ≡ true
 ok0 c = capped-within _ _ (at0 (c .before)) (c .if4 .left)
 
 magnitude-requires : tie.Need-magnitude-requires

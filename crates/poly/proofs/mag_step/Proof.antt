@@ -1,23 +1,24 @@
 -- `poly::mag_step` meets its contract: a product is within the limit where the quotient says so.
 use mathlib.Core.Path.{_≡_}
 use mathlib.Core.Logic.{⊎-elim}
-use Prim.Native.Nat.{ℕ, _*_, _/_, _≤_, _<_, _^_}
+use Prim.Native.Nat.{ℕ, _*_, _/_, _≤_, _<_}
 use native.Mathlib.Nat.{div-lt-iff-lt-mul, le-div-iff-mul-le, mul-zero}
 use native.Mathlib.Omega.{arith}
 use borrow.Author.Needs.{needs}
 use Rattle.poly.proofs.mag_step.Statement.{statement}
 use Rattle.poly.proofs.mag_step.Tie as tie
+use Rattle.poly.specs.Poly.{stepMax}
 
-within : (v m : ℕ) → (m ≡ 0 → ⊥) → v ≤ 2 ^ 61 / m → v * m ≤ 2 ^ 61
-within v m h = le-div-iff-mul-le {k = m} {x = v} {y = 2 ^ 61} (omega arith) .0
+within : (v m : ℕ) → (m ≡ 0 → ⊥) → v ≤ stepMax / m → v * m ≤ stepMax
+within v m h = le-div-iff-mul-le {k = m} {x = v} {y = stepMax} (omega arith) .0
 
-beyond : (v m : ℕ) → (m ≡ 0 → ⊥) → 2 ^ 61 / m < v → 2 ^ 61 < v * m
-beyond v m h = div-lt-iff-lt-mul {k = m} {x = 2 ^ 61} {y = v} (omega arith) .0
+beyond : (v m : ℕ) → (m ≡ 0 → ⊥) → stepMax / m < v → stepMax < v * m
+beyond v m h = div-lt-iff-lt-mul {k = m} {x = stepMax} {y = v} (omega arith) .0
 
 nought : (v m : ℕ) → m ≡ 0 → v * m ≡ 0
 nought v m e = rw e (mul-zero v)
 
-product : (c : tie.Joined1) → c .before .args .v * c .before .args .m ≤ 2 ^ 61
+product : (c : tie.Joined1) → c .before .args .v * c .before .args .m ≤ stepMax
 product c =
     let v = c .before .args .v in
     let m = c .before .args .m in

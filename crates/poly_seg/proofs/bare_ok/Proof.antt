@@ -7,6 +7,7 @@ use mathlib.Core.Path.{_≡_, sym, _∙_}
 use mathlib.Core.List.{List, []}
 use native.Mathlib.Omega.{arith}
 use lib.ListN.{length, take, getD}
+use Rattle.units.specs.Limits.{listedMax}
 use Rattle.units.specs.declared.Date.{Date}
 use Rattle.units.proofs.Loop.{Left, left-first}
 use Rattle.units.proofs.Places.{place-end, place-here, place-step}
@@ -29,7 +30,7 @@ abbrev μ-loop : tie.MeasureT-loop
 μ-loop n segments hi i₀ low₀ i low = n - i
 
 room : (c : tie.Start Inv-loop μ-loop) → c .args .n ≤ length (c .args .t1)
-room c = let e : length (c .args .t1) ≡ 64 = search needs in omega (arith, c .pre .0)
+room c = let e : length (c .args .t1) ≡ listedMax = search needs in omega (arith, c .pre .0)
 
 -- the segment at the loop's place keeps its rules
 holds : (c : tie.Else2 Inv-loop μ-loop) →

@@ -5,6 +5,7 @@ use Prim.Native.Nat.{_-_, _≤_}
 use mathlib.Core.Path.{_≡_, sym, _∙_}
 use native.Mathlib.Omega.{arith}
 use lib.ListN.{length}
+use Rattle.units.specs.Limits.{segmentsMax}
 use Rattle.units.proofs.Logic.{both-go, both-stop}
 use Rattle.units.proofs.Each.{Each, each-first, each-end, each-stop, each-step}
 use Rattle.poly_seg.specs.Open.{delayOk, delaysOk}
@@ -18,7 +19,7 @@ abbrev μ-loop : tie.MeasureT-loop
 μ-loop count delays i₀ i = count - i
 
 room : (c : tie.Else1 Inv-loop μ-loop) → c .before .args .count ≤ length (c .before .args .t1)
-room c = let e : length (c .before .args .t1) ≡ 16 = search needs in omega (arith, c .if1 .left)
+room c = let e : length (c .before .args .t1) ≡ segmentsMax = search needs in omega (arith, c .if1 .left)
 
 returns : tie.Need-returns Inv-loop μ-loop
 unfolding delaysOk

@@ -1,9 +1,10 @@
 -- `poly_words::find_offer` meets its contract. The invariant: the segments left have the offer that is asked, at the loop's place on.
 use borrow.Author.Needs.{needs}
-use Prim.Native.Nat.{ℕ, _+_, _-_}
+use Prim.Native.Nat.{ℕ, _+_, _-_, _*_}
 use mathlib.Core.Path.{_≡_, sym, ap, _∙_}
 use mathlib.Core.List.{List, _∷_}
 use lib.ListN.{length, take, drop}
+use Rattle.units.specs.Limits.{listedMax}
 use Rattle.units.specs.Answer.{interval}
 use Rattle.units.proofs.Loop.{Left, left-first, left-here, left-step}
 use Rattle.units.proofs.Places.{place-end}
@@ -23,7 +24,7 @@ Inv-loop window polynome free n asked size i₀ i =
 abbrev μ-loop : tie.MeasureT-loop
 μ-loop window polynome free n asked size i₀ i = n - i
 
-size-of : (c : tie.After-told-arg Inv-loop μ-loop) → length (c .before .args .free .now) ≡ 192
+size-of : (c : tie.After-told-arg Inv-loop μ-loop) → length (c .before .args .free .now) ≡ 3 * listedMax
 size-of c = search needs
 
 abbrev list : tie.Start Inv-loop μ-loop → List VolumeSegment
@@ -35,7 +36,7 @@ here : (c : tie.After-listed-at Inv-loop μ-loop)
     ≡ c .listed-at .result ∷ drop (c .before .before .loop .i + 1) (list (c .before .before .before .before .before))
 here c =
     let told = c .before .before .before .before in
-    first-at volumeFrom _ 64 _ (size-of told) (told .before .pre .0) _ _ _ (c .before .if1 .left) (c .listed-at .ensures)
+    first-at volumeFrom _ listedMax _ (size-of told) (told .before .pre .0) _ _ _ (c .before .if1 .left) (c .listed-at .ensures)
 
 told-requires : tie.Need-told-requires Inv-loop μ-loop
 told-requires c κs = search needs

@@ -5,6 +5,7 @@ use mathlib.Core.Path.{_≡_, refl}
 use mathlib.Core.List.{_∷_}
 use native.Mathlib.Omega.{arith}
 use lib.ListN.{length, take, drop, getD, length-take}
+use Rattle.units.specs.Limits.{segmentsMax}
 use Rattle.units.proofs.Loop.{at-place}
 use Rattle.segmentation.specs.declared.DelaySegment.{DelaySegment}
 use Rattle.segmentation.proofs.DelayLoop.{Looking, look-end, look-here, look-on}
@@ -17,7 +18,7 @@ Inv-loop count from date delays i₀ i = Looking (take count delays) count from 
 abbrev μ-loop : tie.MeasureT-loop
 μ-loop count from date delays i₀ i = count - i
 
-size-of : (c : tie.Start Inv-loop μ-loop) → length (c .args .t1) ≡ 16
+size-of : (c : tie.Start Inv-loop μ-loop) → length (c .args .t1) ≡ segmentsMax
 size-of c = search needs
 
 -- the segment at the loop's place

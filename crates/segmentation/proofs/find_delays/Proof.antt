@@ -4,12 +4,13 @@ use Prim.Native.Nat.{_<_}
 use mathlib.Core.Path.{_≡_, sym}
 use native.Mathlib.Omega.{arith}
 use lib.ListN.{length, take, length-take}
+use Rattle.units.specs.Limits.{segmentsMax}
 use Rattle.units.proofs.Loop.{at-place}
 use Rattle.segmentation.proofs.DelayLoop.{places-none, places-both, places-of}
 use Rattle.segmentation.proofs.find_delays.Statement.{statement}
 use Rattle.segmentation.proofs.find_delays.Tie as tie
 
-size-of : (c : tie.Start) → length (c .args .t1) ≡ 16
+size-of : (c : tie.Start) → length (c .args .t1) ≡ segmentsMax
 size-of c = search needs
 
 count-of : (c : tie.Start) → length (take (c .args .count) (c .args .t1)) ≡ c .args .count

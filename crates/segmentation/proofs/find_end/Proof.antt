@@ -6,6 +6,7 @@ use mathlib.Core.List.{_∷_}
 use mathlib.Core.Logic.{⊎-elim}
 use native.Mathlib.Omega.{arith}
 use lib.ListN.{length, take, drop, getD, length-take}
+use Rattle.units.specs.Limits.{segmentsMax}
 use Rattle.units.specs.declared.Date.{Date}
 use Rattle.units.specs.declared.Volume.{Volume}
 use Rattle.units.proofs.Loop.{at-place}
@@ -23,7 +24,7 @@ Inv-loop count deadline rates i₀ at₀ rest₀ i at rest =
 abbrev μ-loop : tie.MeasureT-loop
 μ-loop count deadline rates i₀ at₀ rest₀ i at rest = count - i
 
-size-of : (c : tie.Start Inv-loop μ-loop) → length (c .args .t1) ≡ 16
+size-of : (c : tie.Start Inv-loop μ-loop) → length (c .args .t1) ≡ segmentsMax
 size-of c = search needs
 
 -- the segment at the loop's place

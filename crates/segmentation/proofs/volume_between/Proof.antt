@@ -5,6 +5,7 @@ use mathlib.Core.Path.{_≡_}
 use mathlib.Core.List.{_∷_}
 use native.Mathlib.Omega.{arith}
 use lib.ListN.{length, take, drop, getD, length-take}
+use Rattle.units.specs.Limits.{segmentsMax}
 use Rattle.units.proofs.Loop.{at-place}
 use Rattle.segmentation.specs.declared.VolumeSegment.{VolumeSegment}
 use Rattle.segmentation.proofs.RateLoop.{Adding, add-first, add-ok, add-step, add-end}
@@ -17,7 +18,7 @@ Inv-loop count start end rates i₀ sum₀ i sum = Adding (take count rates) cou
 abbrev μ-loop : tie.MeasureT-loop
 μ-loop count start end rates i₀ sum₀ i sum = count - i
 
-size-of : (c : tie.Start Inv-loop μ-loop) → length (c .args .t1) ≡ 16
+size-of : (c : tie.Start Inv-loop μ-loop) → length (c .args .t1) ≡ segmentsMax
 size-of c = search needs
 
 -- the segment at the loop's place

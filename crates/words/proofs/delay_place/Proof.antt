@@ -1,10 +1,11 @@
 -- `words::delay_place` meets its contract. The invariant: the lookup from the loop's place on finds what is asked.
 use borrow.Author.Needs.{needs}
-use Prim.Native.Nat.{_+_, _-_}
+use Prim.Native.Nat.{_+_, _-_, _*_}
 use mathlib.Core.Path.{_≡_, refl}
 use mathlib.Core.List.{List, _∷_}
 use native.Mathlib.Omega.{arith}
 use lib.ListN.{length, take, drop}
+use Rattle.units.specs.Limits.{segmentsMax}
 use Rattle.segmentation.proofs.DelayLoop.{Looking, look-end, look-here, look-on}
 use Rattle.segmentation.specs.declared.DelaySegment.{DelaySegment}
 use Rattle.words.specs.Words.{delayFrom, delaysIn}
@@ -18,7 +19,7 @@ Inv-loop delays count from date i₀ i = Looking (take count (delaysIn delays)) 
 abbrev μ-loop : tie.MeasureT-loop
 μ-loop delays count from date i₀ i = count - i
 
-size-of : (c : tie.After-told-arg Inv-loop μ-loop) → length (c .before .args .delays .now) ≡ 48
+size-of : (c : tie.After-told-arg Inv-loop μ-loop) → length (c .before .args .delays .now) ≡ 3 * segmentsMax
 size-of c = search needs
 
 abbrev list : tie.Start Inv-loop μ-loop → List DelaySegment
@@ -30,7 +31,7 @@ here : (c : tie.After-delay-at Inv-loop μ-loop)
     ≡ c .delay-at .result ∷ drop (c .before .before .loop .i + 1) (list (c .before .before .before .before .before))
 here c =
     let told = c .before .before .before .before in
-    first-at delayFrom _ 16 _ (size-of told) (told .before .pre .0) _ _ _ (c .before .if1 .left) (c .delay-at .ensures)
+    first-at delayFrom _ segmentsMax _ (size-of told) (told .before .pre .0) _ _ _ (c .before .if1 .left) (c .delay-at .ensures)
 
 told-requires : tie.Need-told-requires Inv-loop μ-loop
 told-requires c κs = search needs
@@ -55,7 +56,7 @@ loop-again c =
 returns : tie.Need-returns Inv-loop μ-loop
 returns c =
     let told = c .before .before .before in
-    look-end _ _ _ _ _ (c .before .loop .inv) (first-count delayFrom _ 16 _ (size-of told) (told .before .pre .0)) (c .if1 .taken)
+    look-end _ _ _ _ _ (c .before .loop .inv) (first-count delayFrom _ segmentsMax _ (size-of told) (told .before .pre .0)) (c .if1 .taken)
 
 returns-2 : tie.Need-returns-2 Inv-loop μ-loop
 returns-2 c =

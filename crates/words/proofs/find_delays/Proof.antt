@@ -1,20 +1,21 @@
 -- `words::find_delays` meets its contract: the two places are those of the definition's two lookups.
 use borrow.Author.Needs.{needs}
-use Prim.Native.Nat.{_<_}
+use Prim.Native.Nat.{_*_, _<_}
 use mathlib.Core.Path.{_≡_, sym}
 use native.Mathlib.Omega.{arith}
 use lib.ListN.{length, take}
+use Rattle.units.specs.Limits.{segmentsMax}
 use Rattle.segmentation.proofs.DelayLoop.{places-none, places-both, places-of}
 use Rattle.words.specs.Words.{delayFrom, delaysIn}
 use Rattle.words.proofs.Threes.{first-count, first-at}
 use Rattle.words.proofs.find_delays.Statement.{statement}
 use Rattle.words.proofs.find_delays.Tie as tie
 
-size-of : (c : tie.After-told-arg) → length (c .before .args .delays .now) ≡ 48
+size-of : (c : tie.After-told-arg) → length (c .before .args .delays .now) ≡ 3 * segmentsMax
 size-of c = search needs
 
 count-of : (c : tie.After-told-arg) → length (take (c .before .args .count) (delaysIn (c .before .args .delays .now))) ≡ c .before .args .count
-count-of c = first-count delayFrom _ 16 _ (size-of c) (c .before .pre)
+count-of c = first-count delayFrom _ segmentsMax _ (size-of c) (c .before .pre)
 
 told-requires : tie.Need-told-requires
 told-requires c κs = search needs
@@ -54,8 +55,8 @@ returns-2 c =
     let told = p .before .before .before .before in
     let le = told .before .pre in
     sym (places-of _ _ _ _ _ _ (count-of told) (p .delay-place .ensures) (q .delay-place2 .ensures) _ _ _ _
-    (first-at delayFrom _ 16 _ (size-of told) le _ _ _ (first-place n) (a .delay-at .ensures))
-    (first-at delayFrom _ 16 _ (size-of told) le _ _ _ (n .if1 .left) (b .delay-at2 .ensures)))
+    (first-at delayFrom _ segmentsMax _ (size-of told) le _ _ _ (first-place n) (a .delay-at .ensures))
+    (first-at delayFrom _ segmentsMax _ (size-of told) le _ _ _ (n .if1 .left) (b .delay-at2 .ensures)))
 
 pub find-delays-spec : {M : Type 1} → statement M
 find-delays-spec =

@@ -1,11 +1,12 @@
 -- `words::find_end` meets its contract. The invariant: what is left of the list, at the present date and rest, has the end that is asked.
 use borrow.Author.Needs.{needs}
-use Prim.Native.Nat.{ℕ, _+_, _-_}
+use Prim.Native.Nat.{ℕ, _+_, _-_, _*_}
 use mathlib.Core.Path.{_≡_, sym, ap, _∙_}
 use mathlib.Core.List.{List, _∷_}
 use mathlib.Core.Logic.{⊎-elim}
 use native.Mathlib.Omega.{arith}
 use lib.ListN.{length, take, drop, length-take}
+use Rattle.units.specs.Limits.{segmentsMax}
 use Rattle.units.specs.declared.Date.{Date}
 use Rattle.units.specs.declared.Volume.{Volume}
 use Rattle.segmentation.specs.End.{byDeadline}
@@ -24,7 +25,7 @@ Inv-loop rates count deadline i₀ at₀ rest₀ i at rest =
 abbrev μ-loop : tie.MeasureT-loop
 μ-loop rates count deadline i₀ at₀ rest₀ i at rest = count - i
 
-size-of : (c : tie.After-told-arg Inv-loop μ-loop) → length (c .before .args .rates .now) ≡ 48
+size-of : (c : tie.After-told-arg Inv-loop μ-loop) → length (c .before .args .rates .now) ≡ 3 * segmentsMax
 size-of c = search needs
 
 abbrev list : tie.Start Inv-loop μ-loop → List VolumeSegment
@@ -36,7 +37,7 @@ here : (c : tie.After-rate-at Inv-loop μ-loop)
     ≡ c .rate-at .result ∷ drop (c .before .before .loop .i + 1) (list (c .before .before .before .before .before))
 here c =
     let told = c .before .before .before .before in
-    first-at volumeFrom _ 16 _ (size-of told) (told .before .pre .0) _ _ _ (c .before .if1 .left) (c .rate-at .ensures)
+    first-at volumeFrom _ segmentsMax _ (size-of told) (told .before .pre .0) _ _ _ (c .before .if1 .left) (c .rate-at .ensures)
 
 told-requires : tie.Need-told-requires Inv-loop μ-loop
 told-requires c κs = search needs

@@ -1,10 +1,11 @@
 -- `words::volume_between` meets its contract. The invariant: the sum so far, with the capacity of what is left, is the whole.
 use borrow.Author.Needs.{needs}
-use Prim.Native.Nat.{_+_, _-_}
+use Prim.Native.Nat.{_+_, _-_, _*_}
 use mathlib.Core.Path.{_≡_}
 use mathlib.Core.List.{List, _∷_}
 use native.Mathlib.Omega.{arith}
 use lib.ListN.{length, take, drop, length-take}
+use Rattle.units.specs.Limits.{segmentsMax}
 use Rattle.segmentation.proofs.RateLoop.{Adding, add-first, add-ok, add-step, add-end}
 use Rattle.segmentation.specs.declared.VolumeSegment.{VolumeSegment}
 use Rattle.words.specs.Words.{volumeFrom, volumesIn}
@@ -18,7 +19,7 @@ Inv-loop rates count start end i₀ sum₀ i sum = Adding (take count (volumesIn
 abbrev μ-loop : tie.MeasureT-loop
 μ-loop rates count start end i₀ sum₀ i sum = count - i
 
-size-of : (c : tie.After-told-arg Inv-loop μ-loop) → length (c .before .args .rates .now) ≡ 48
+size-of : (c : tie.After-told-arg Inv-loop μ-loop) → length (c .before .args .rates .now) ≡ 3 * segmentsMax
 size-of c = search needs
 
 abbrev list : tie.Start Inv-loop μ-loop → List VolumeSegment
@@ -30,7 +31,7 @@ here : (c : tie.After-rate-at Inv-loop μ-loop)
     ≡ c .rate-at .result ∷ drop (c .before .before .loop .i + 1) (list (c .before .before .before .before .before))
 here c =
     let told = c .before .before .before .before in
-    first-at volumeFrom _ 16 _ (size-of told) (told .before .pre .0) _ _ _ (c .before .if1 .left) (c .rate-at .ensures)
+    first-at volumeFrom _ segmentsMax _ (size-of told) (told .before .pre .0) _ _ _ (c .before .if1 .left) (c .rate-at .ensures)
 
 told-requires : tie.Need-told-requires Inv-loop μ-loop
 told-requires c κs = search needs

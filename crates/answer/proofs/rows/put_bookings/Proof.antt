@@ -4,6 +4,7 @@ use mathlib.Core.Path.{_≡_}
 use native.Mathlib.Omega.{arith}
 use borrow.Author.Needs.{needs}
 use lib.ListN.{length, length-map}
+use Rattle.units.specs.Limits.{listedMax}
 use Rattle.answer.specs.Rows.{bookingText}
 use Rattle.answer.proofs.Stretches.{row-length}
 use Rattle.answer.proofs.Turns.{Writing, turn-first, turn-next, turn-end}
@@ -17,7 +18,7 @@ abbrev μ-loop : tie.MeasureT-loop
 μ-loop out₀ segments n at₀ i₀ out at i = n - i
 
 size-of : (c : tie.Start Inv-loop μ-loop) → c .args .list .count ≤ length (c .args .list .segments)
-size-of c = let size : length (c .args .list .segments) ≡ 64 = simp length-map at (c .good .1 .0 .1 .1 .0 .1 .0 .1) in omega arith
+size-of c = let size : length (c .args .list .segments) ≡ listedMax = simp length-map at (c .good .1 .0 .1 .1 .0 .1 .0 .1) in omega arith
 
 loop-holds : tie.Need-loop-holds Inv-loop μ-loop
 loop-holds c = turn-first _ _ _ _ _ _ (omega arith) (omega arith)

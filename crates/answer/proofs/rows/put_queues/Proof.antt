@@ -9,6 +9,7 @@ use Rattle.text.proofs.Words.{word-length}
 use Rattle.answer.proofs.Turns.{Writing, turn-first, turn-next, turn-end}
 use Rattle.answer.proofs.rows.put_queues.Statement.{statement}
 use Rattle.answer.proofs.rows.put_queues.Tie as tie
+use Rattle.legacy.specs.Open.{classesMax}
 
 abbrev Inv-loop : tie.InvT-loop
 Inv-loop out₀ classes queues at₀ i₀ out at i = Writing queueText 16 queues classes (record { line = out₀; at = 4 }) i (record { line = out; at = at })
@@ -17,7 +18,7 @@ abbrev μ-loop : tie.MeasureT-loop
 μ-loop out₀ classes queues at₀ i₀ out at i = classes - i
 
 size-of : (c : tie.Start Inv-loop μ-loop) → c .args .classes ≤ length (c .args .t3)
-size-of c = let size : length (c .args .t3) ≡ 8 = search needs in omega arith
+size-of c = let size : length (c .args .t3) ≡ classesMax = search needs in omega arith
 
 loop-holds : tie.Need-loop-holds Inv-loop μ-loop
 loop-holds c = turn-first _ _ _ _ _ _ (omega arith) (omega arith)

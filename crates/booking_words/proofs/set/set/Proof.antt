@@ -1,10 +1,11 @@
 -- `booking_words::set::set` meets its contract: the moves and the writes leave the list that the definition makes.
 use borrow.Author.Needs.{needs}
-use Prim.Native.Nat.{_<_, _≤_}
+use Prim.Native.Nat.{_*_, _<_, _≤_}
 use mathlib.Core.Path.{_≡_, ap, _∙_}
 use mathlib.Core.Logic.{⊎-elim, inl, inr}
 use native.Mathlib.Omega.{arith}
 use lib.ListN.{length}
+use Rattle.units.specs.Limits.{listedMax}
 use Rattle.bookings.specs.declared.Set.{Set}
 use Rattle.words.proofs.Threes.{threes-length}
 use Rattle.booking_words.specs.Words.{bookingFrom, bookingsIn}
@@ -12,11 +13,11 @@ use Rattle.booking_words.proofs.Setting.{Counted, counted-few, set-noth
 use Rattle.booking_words.proofs.set.set.Statement.{statement}
 use Rattle.booking_words.proofs.set.set.Tie as tie
 
-size-of : (c : tie.After-told-arg2) → length (c .before .before .args .bookings .now) ≡ 192
+size-of : (c : tie.After-told-arg2) → length (c .before .before .args .bookings .now) ≡ 3 * listedMax
 size-of c = search needs
 
-size : (c : tie.After-told-arg2) → length (bookingsIn (c .before .before .args .bookings .now)) ≡ 64
-size c = threes-length bookingFrom _ 64 (size-of c)
+size : (c : tie.After-told-arg2) → length (bookingsIn (c .before .before .args .bookings .now)) ≡ listedMax
+size c = threes-length bookingFrom _ listedMax (size-of c)
 
 -- the first search, and before it the array's length
 abbrev found : tie.After-first-from → tie.After-first-after

@@ -1,9 +1,10 @@
 -- `booking_words::set::set_between` meets its contract: the segments from the loop's place on are set and moved.
 use borrow.Author.Needs.{needs}
-use Prim.Native.Nat.{ℕ, _+_, _≤_, max, min}
+use Prim.Native.Nat.{ℕ, _+_, _*_, _≤_, max, min}
 use mathlib.Core.Path.{_≡_, ap, _∙_}
 use native.Mathlib.Omega.{arith}
 use lib.ListN.{length}
+use Rattle.units.specs.Limits.{listedMax}
 use Rattle.units.specs.declared.Date.{Date}
 use Rattle.bookings.specs.declared.Level.{Level}
 use Rattle.bookings.specs.declared.BookingSegment.{BookingSegment}
@@ -20,12 +21,12 @@ Inv-loop bookings₀ a b by level s e j₀ bookings j = Moved (sentOf (s .0) (e 
 abbrev μ-loop : tie.MeasureT-loop
 μ-loop bookings₀ a b by level s e j₀ bookings j = j
 
-size-of : (c : tie.After-told-arg2 Inv-loop μ-loop) → length (c .before .before .args .bookings .now) ≡ 192
+size-of : (c : tie.After-told-arg2 Inv-loop μ-loop) → length (c .before .before .args .bookings .now) ≡ 3 * listedMax
 size-of c = search needs
 
 -- the moved ones fit
 fits : (c : tie.After-told-arg2 Inv-loop μ-loop) → c .before .before .args .b + c .before .before .args .by ≤ length (bookingsIn (c .before .before .args .bookings .now))
-fits c = omega (arith, threes-length bookingFrom (c .before .before .args .bookings .now) 64 (size-of c), c .before .before .pre .1)
+fits c = omega (arith, threes-length bookingFrom (c .before .before .args .bookings .now) listedMax (size-of c), c .before .before .pre .1)
 
 -- the segment as the code makes it
 made : (s e : Date) (w : Level) (g : BookingSegment) (x y : Date) → x .0 ≡ max (g .start .0) (s .0) → y .0 ≡ min (g .end .0) (e .0)

@@ -1,9 +1,10 @@
 -- `booking_words::set::shift` meets its contract: the segments from the loop's place on are moved.
 use borrow.Author.Needs.{needs}
-use Prim.Native.Nat.{_+_, _≤_}
+use Prim.Native.Nat.{_+_, _*_, _≤_}
 use mathlib.Core.Path.{_≡_, refl}
 use native.Mathlib.Omega.{arith}
 use lib.ListN.{length}
+use Rattle.units.specs.Limits.{listedMax}
 use Rattle.words.proofs.Threes.{threes-length}
 use Rattle.booking_words.specs.Words.{bookingFrom, bookingsIn, zeroBooking}
 use Rattle.booking_words.proofs.Moved.{Moved, move-first, move-turn, shift-last}
@@ -16,12 +17,12 @@ Inv-loop bookings₀ n i by j₀ bookings j = Moved (λ g. g) (bookingsIn bookin
 abbrev μ-loop : tie.MeasureT-loop
 μ-loop bookings₀ n i by j₀ bookings j = j
 
-size-of : (c : tie.After-told-arg2 Inv-loop μ-loop) → length (c .before .before .args .bookings .now) ≡ 192
+size-of : (c : tie.After-told-arg2 Inv-loop μ-loop) → length (c .before .before .args .bookings .now) ≡ 3 * listedMax
 size-of c = search needs
 
 -- the moved ones fit
 fits : (c : tie.After-told-arg2 Inv-loop μ-loop) → c .before .before .args .n + c .before .before .args .by ≤ length (bookingsIn (c .before .before .args .bookings .now))
-fits c = omega (arith, threes-length bookingFrom (c .before .before .args .bookings .now) 64 (size-of c), c .before .before .pre .1)
+fits c = omega (arith, threes-length bookingFrom (c .before .before .args .bookings .now) listedMax (size-of c), c .before .before .pre .1)
 
 told-requires : tie.Need-told-requires Inv-loop μ-loop
 told-requires c κs = search needs

@@ -4,6 +4,7 @@ use Prim.Native.Nat.{_+_, _-_, _<_, _≤_}
 use mathlib.Core.Path.{_≡_}
 use native.Mathlib.Omega.{arith}
 use lib.ListN.{length, take}
+use Rattle.units.specs.Limits.{listedMax}
 use Rattle.bookings.proofs.CutLoop.{Growing, grow-first, grow-step, grow-last}
 use Rattle.bookings.proofs.cut.grown.Statement.{statement}
 use Rattle.bookings.proofs.cut.grown.Tie as tie
@@ -15,7 +16,7 @@ abbrev μ-loop : tie.MeasureT-loop
 μ-loop n send level old i₀ m₀ i m = n - i
 
 size : (c : tie.Start Inv-loop μ-loop) → c .args .n ≤ length (c .args .t1)
-size c = let e : length (c .args .t1) ≡ 64 = search needs in omega arith
+size c = let e : length (c .args .t1) ≡ listedMax = search needs in omega arith
 
 -- the sum stays small
 small : (c : tie.After-parts Inv-loop μ-loop) → c .before .before .before .loop .m + c .parts .result .befores + c .parts .result .afters < 200

@@ -4,6 +4,7 @@ use Prim.Native.Nat.{_+_, _-_, _<_, _≤_}
 use mathlib.Core.Path.{_≡_}
 use native.Mathlib.Omega.{arith}
 use lib.ListN.{length, take}
+use Rattle.units.specs.Limits.{listedMax}
 use Rattle.bookings.proofs.CutLoop.{Laying, lay-first, lay-room, lay-step, lay-last}
 use Rattle.bookings.proofs.cut.laid.Statement.{statement}
 use Rattle.bookings.proofs.cut.laid.Tie as tie
@@ -15,10 +16,10 @@ abbrev μ-loop : tie.MeasureT-loop
 μ-loop n send level old out₀ i₀ m₀ out i m = n - i
 
 size : (c : tie.Start Inv-loop μ-loop) → c .args .n ≤ length (c .args .t1)
-size c = let e : length (c .args .t1) ≡ 64 = search needs in omega arith
+size c = let e : length (c .args .t1) ≡ listedMax = search needs in omega arith
 
 -- the array has room for what the segment leaves
-room : (c : tie.After-parts Inv-loop μ-loop) → c .before .before .before .loop .m + c .parts .result .befores + c .parts .result .afters < 64
+room : (c : tie.After-parts Inv-loop μ-loop) → c .before .before .before .loop .m + c .parts .result .befores + c .parts .result .afters < listedMax
 room c =
     let one = c .before .before in
     lay-room _ _ _ _ _ _ _ _ (size (one .before .before)) (one .loop-test .taken) _ (c .parts .ensures) _ (one .before .loop .inv) (one .before .before .pre .1)

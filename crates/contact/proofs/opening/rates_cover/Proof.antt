@@ -6,6 +6,7 @@ use mathlib.Core.Path.{_≡_, sym, _∙_}
 use mathlib.Core.List.{List}
 use native.Mathlib.Omega.{arith}
 use lib.ListN.{length, take}
+use Rattle.units.specs.Limits.{segmentsMax}
 use Rattle.units.specs.declared.Date.{Date}
 use Rattle.units.proofs.Loop.{Left, left-first}
 use Rattle.units.proofs.Places.{place-end, place-here, place-step}
@@ -25,7 +26,7 @@ abbrev μ-loop : tie.MeasureT-loop
 μ-loop count rates end i₀ at₀ i at = count - i
 
 size : (c : tie.Start Inv-loop μ-loop) → c .args .count ≤ length (c .args .t1)
-size c = let e : length (c .args .t1) ≡ 16 = search needs in omega arith
+size c = let e : length (c .args .t1) ≡ segmentsMax = search needs in omega arith
 
 loop-holds : tie.Need-loop-holds Inv-loop μ-loop
 loop-holds c = left-first _ _ _ _

@@ -1,9 +1,10 @@
 -- `contact::opening::total_of` meets its contract: from the sum reached on, the segments left have the answer of all.
 use borrow.Author.Needs.{needs}
-use Prim.Native.Nat.{_-_, _≤_, _^_}
+use Prim.Native.Nat.{_-_, _≤_}
 use mathlib.Core.Path.{_≡_, sym, _∙_}
 use native.Mathlib.Omega.{arith}
 use lib.ListN.{length, take}
+use Rattle.units.specs.Limits.{volumeMax, segmentsMax}
 use Rattle.units.proofs.Loop.{Left, left-first}
 use Rattle.units.proofs.Places.{place-end, place-here, place-step}
 use Rattle.contact.proofs.Rates.{forward-at, totalFrom, total-first, total-end, total-fast, total-over, total-go}
@@ -11,13 +12,13 @@ use Rattle.contact.proofs.opening.total_of.Statement.{statement}
 use Rattle.contact.proofs.opening.total_of.Tie as tie
 
 abbrev Inv-loop : tie.InvT-loop
-Inv-loop count rates i₀ sum₀ i sum = (Left totalFrom (take count rates) count (sum₀ .0) i (sum .0)) × (sum .0 ≤ 2 ^ 38)
+Inv-loop count rates i₀ sum₀ i sum = (Left totalFrom (take count rates) count (sum₀ .0) i (sum .0)) × (sum .0 ≤ volumeMax)
 
 abbrev μ-loop : tie.MeasureT-loop
 μ-loop count rates i₀ sum₀ i sum = count - i
 
 size : (c : tie.Start Inv-loop μ-loop) → c .args .count ≤ length (c .args .t1)
-size c = let e : length (c .args .t1) ≡ 16 = search needs in omega arith
+size c = let e : length (c .args .t1) ≡ segmentsMax = search needs in omega arith
 
 loop-holds : tie.Need-loop-holds Inv-loop μ-loop
 loop-holds c = (left-first _ _ _ _, omega arith)

@@ -5,6 +5,7 @@ use mathlib.Core.Path.{_≡_}
 use mathlib.Core.List.{map}
 use native.Mathlib.Omega.{arith}
 use lib.ListN.{length, take}
+use Rattle.units.specs.Limits.{segmentsMax}
 use Rattle.units.specs.Arrays.{padded}
 use Rattle.units.proofs.Arrays.{padded-none, padded-turn-map}
 use Rattle.contact.specs.Segments.{volumeOf, zeroVolume}
@@ -13,16 +14,16 @@ use Rattle.contact.proofs.opening.volumes_of.Statement.{statement}
 use Rattle.contact.proofs.opening.volumes_of.Tie as tie
 
 abbrev Inv-loop : tie.InvT-loop
-Inv-loop count rates out₀ i₀ out i = (i ≤ count) × (out ≡ padded 16 zeroVolume (map volumeOf (take i rates)))
+Inv-loop count rates out₀ i₀ out i = (i ≤ count) × (out ≡ padded segmentsMax zeroVolume (map volumeOf (take i rates)))
 
 abbrev μ-loop : tie.MeasureT-loop
 μ-loop count rates out₀ i₀ out i = count - i
 
 size : (c : tie.Start Inv-loop μ-loop) → c .args .count ≤ length (c .args .t1)
-size c = let e : length (c .args .t1) ≡ 16 = search needs in omega arith
+size c = let e : length (c .args .t1) ≡ segmentsMax = search needs in omega arith
 
 loop-holds : tie.Need-loop-holds Inv-loop μ-loop
-loop-holds c = (omega arith, padded-none 16 zeroVolume)
+loop-holds c = (omega arith, padded-none segmentsMax zeroVolume)
 
 mul-s : tie.Need-mul-s Inv-loop μ-loop
 mul-s c = search needs
@@ -50,7 +51,7 @@ loop-again : tie.Need-loop-again Inv-loop μ-loop
 loop-again c =
     let l = c .before .before .before .loop in
     let start = c .before .before .before .before in
-    (omega arith, rw (l .inv .1, c .volume-of .ensures) (padded-turn-map 16 zeroVolume volumeOf _ (l .i) _ (omega arith) (omega (arith, size start))))
+    (omega arith, rw (l .inv .1, c .volume-of .ensures) (padded-turn-map segmentsMax zeroVolume volumeOf _ (l .i) _ (omega arith) (omega (arith, size start))))
 
 returns : tie.Need-returns Inv-loop μ-loop
 returns c = let e : c .before .loop .i ≡ c .before .before .args .count = omega arith in rw (← e) (c .before .loop .inv .1)

@@ -4,18 +4,19 @@ use borrow.Author.Tests.{not-true, not-false}
 use Prim.Native.Nat.{_-_}
 use mathlib.Core.Path.{_≡_, sym, _∙_}
 use lib.ListN.{length}
+use Rattle.units.specs.Limits.{segmentsMax}
 use Rattle.units.proofs.Unused.{Rest, rest-first, rest-end, rest-stop, rest-step}
 use Rattle.contact.specs.Segments.{noDelay}
 use Rattle.contact.proofs.test.delays_unused.Statement.{statement}
 use Rattle.contact.proofs.test.delays_unused.Tie as tie
 
 abbrev Inv-loop : tie.InvT-loop
-Inv-loop count delays i₀ i = Rest noDelay delays 16 count i
+Inv-loop count delays i₀ i = Rest noDelay delays segmentsMax count i
 
 abbrev μ-loop : tie.MeasureT-loop
-μ-loop count delays i₀ i = 16 - i
+μ-loop count delays i₀ i = segmentsMax - i
 
-size : (c : tie.Start Inv-loop μ-loop) → length (c .args .t1) ≡ 16
+size : (c : tie.Start Inv-loop μ-loop) → length (c .args .t1) ≡ segmentsMax
 size c = search needs
 
 loop-holds : tie.Need-loop-holds Inv-loop μ-loop

@@ -2,8 +2,9 @@
 use borrow.Author.Needs.{needs}
 use mathlib.Core.Path.{_≡_, ap, _∙_}
 use native.Mathlib.Omega.{arith}
-use Prim.Native.Nat.{ℕ, _≤_, _^_}
+use Prim.Native.Nat.{ℕ, _*_, _≤_}
 use lib.ListN.{length, length-map, length-take, take, set}
+use Rattle.units.specs.Limits.{volumeMax, segmentsMax, listedMax}
 use Rattle.segmentation.specs.declared.VolumeSegment.{VolumeSegment}
 use Rattle.segmentation.proofs.Capacity.{capacity-fits}
 use Rattle.free_list.specs.Cut.{stretchOf}
@@ -12,7 +13,7 @@ use Rattle.free_list.proofs.Places.{book-start, book-flat, book-full, b
 use Rattle.free_list.proofs.FreeList.cut.Statement.{statement}
 use Rattle.free_list.proofs.FreeList.cut.Tie as tie
 
-size : (c : tie.Start) → length (c .args .self .segments) ≡ 64
+size : (c : tie.Start) → length (c .args .self .segments) ≡ listedMax
 size c = simp length-map at (c .good .0 .1 .1 .0 .1 .0 .1)
 
 -- the start, from the first test and from where the right part is made
@@ -32,9 +33,9 @@ stored : (c : tie.Start) (off : ℕ) (x y : VolumeSegment) → x ≡ y
 stored c off x y e = ap (λ (s : VolumeSegment). leftIn (set (c .args .self .segments) (c .args .place) s) (c .args .self .count) off (s .volume .0)) e
 
 -- what a stretch carries
-carried : (c : tie.Start) (x : VolumeSegment) (a b : ℕ) → x ≡ stretchOf (take (c .args .m) (c .args .rates)) a b → x .volume .0 ≤ 2 ^ 42
+carried : (c : tie.Start) (x : VolumeSegment) (a b : ℕ) → x ≡ stretchOf (take (c .args .m) (c .args .rates)) a b → x .volume .0 ≤ segmentsMax * volumeMax
 carried c x a b e =
-    let few : length (take (c .args .m) (c .args .rates)) ≤ 16 = simp length-take (omega (arith, c .pre .0)) in
+    let few : length (take (c .args .m) (c .args .rates)) ≤ segmentsMax = simp length-take (omega (arith, c .pre .0)) in
     rw e (omega (arith, capacity-fits _ a b (c .pre .1 .0), few))
 
 mul-g : tie.Need-mul-g

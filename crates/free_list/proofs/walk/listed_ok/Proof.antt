@@ -7,6 +7,7 @@ use mathlib.Core.List.{List, _∷_}
 use native.Mathlib.Omega.{arith}
 use lib.Dec.{eqb}
 use lib.ListN.{length, take, drop, getD, length-take}
+use Rattle.units.specs.Limits.{segmentsMax, listedMax}
 use Rattle.units.proofs.Logic.{both-go, both-stop}
 use Rattle.units.proofs.Loop.{at-place}
 use Rattle.segmentation.specs.declared.VolumeSegment.{VolumeSegment}
@@ -21,12 +22,12 @@ abbrev Inv-loop : tie.InvT-loop
 Inv-loop m n room rates free hi w₀ i₀ j₀ w i j = Going (take m rates) (take n free) (w₀ .low .0) (hi .0) n w i j
 
 abbrev μ-loop : tie.MeasureT-loop
-μ-loop m n room rates free hi w₀ i₀ j₀ w i j = (n - i) + (16 - j)
+μ-loop m n room rates free hi w₀ i₀ j₀ w i j = (n - i) + (segmentsMax - j)
 
-rates-size : (c : tie.Start Inv-loop μ-loop) → length (c .args .t1) ≡ 16
+rates-size : (c : tie.Start Inv-loop μ-loop) → length (c .args .t1) ≡ segmentsMax
 rates-size c = search needs
 
-free-size : (c : tie.Start Inv-loop μ-loop) → length (c .args .t3) ≡ 64
+free-size : (c : tie.Start Inv-loop μ-loop) → length (c .args .t3) ≡ listedMax
 free-size c = search needs
 
 abbrev rates : (c : tie.Start Inv-loop μ-loop) → List VolumeSegment

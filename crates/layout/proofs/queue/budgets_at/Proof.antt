@@ -9,15 +9,16 @@ use Rattle.layout.proofs.Rows.{Filled, filled-none, filled-turn, filled
 use borrow.Author.Needs.{needs}
 use Rattle.layout.proofs.queue.budgets_at.Statement.{statement}
 use Rattle.layout.proofs.queue.budgets_at.Tie as tie
+use Rattle.legacy.specs.Open.{classesMax}
 
 abbrev volume : ℕ → Volume
 volume n = record { 0 = n }
 
 abbrev Inv-loop : tie.InvT-loop
-Inv-loop line budgets₀ i₀ budgets i = Filled (λ (p : ℕ). volume (numberAt line p)) 8 8 (volume 0) 35 8 i budgets
+Inv-loop line budgets₀ i₀ budgets i = Filled (λ (p : ℕ). volume (numberAt line p)) 8 8 (volume 0) 35 classesMax i budgets
 
 abbrev μ-loop : tie.MeasureT-loop
-μ-loop line budgets₀ i₀ budgets i = 8 - i
+μ-loop line budgets₀ i₀ budgets i = classesMax - i
 
 loop-holds : tie.Need-loop-holds Inv-loop μ-loop
 loop-holds c = filled-none

@@ -7,7 +7,7 @@ use native.Mathlib.Omega.{arith}
 use Rattle.units.specs.Logic.{pick}
 use Rattle.units.proofs.Logic.{both-go, both-stop}
 use Rattle.units.proofs.Choice.{pick-yes, pick-no, told-yes, told-no}
-use Rattle.legacy.specs.Open.{budgetsOk}
+use Rattle.legacy.specs.Open.{classesMax, budgetsOk}
 use Rattle.legacy.proofs.Rules.{budgets-are}
 use Rattle.legacy.proofs.Queue.budgets_ok.Statement.{statement}
 use Rattle.legacy.proofs.Queue.budgets_ok.Tie as tie
@@ -24,7 +24,7 @@ returns-2 c = sym (both-go _ _ (le-leb _ _ (c .before .if1 .left)) ∙ both-stop
 used-is : (c : tie.Joined3) → c .if3 .used ≡ pick (c .before .before .before .args .flags .budgeted) (c .before .before .before .args .classes) 0
 used-is c = ⊎-elim (λ w. w .1 ∙ sym (pick-yes _ _ _ (w .0 .taken))) (λ w. w .1 ∙ sym (pick-no _ _ _ (w .0 .left))) (c .if3 .came)
 
-used-low : (c : tie.Joined3) → c .if3 .used ≤ 8
+used-low : (c : tie.Joined3) → c .if3 .used ≤ classesMax
 used-low c = ⊎-elim (λ w. omega arith) (λ w. omega arith) (c .if3 .came)
 
 within-requires : tie.Need-within-requires

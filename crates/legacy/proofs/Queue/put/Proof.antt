@@ -1,6 +1,5 @@
 -- `legacy::Queue::put` meets its contract: room in the queues up to the class, or the record as it came.
 use borrow.Author.Needs.{needs}
-use Prim.Native.Nat.{_^_}
 use mathlib.Core.Path.{sym, _∙_}
 use native.Mathlib.Omega.{arith}
 use Rattle.units.proofs.Choice.{told-yes, told-no}
@@ -8,6 +7,7 @@ use Rattle.legacy.proofs.Facts.{sound, first-low}
 use Rattle.legacy.proofs.Moves.{put-stop, put-go}
 use Rattle.legacy.proofs.Queue.put.Statement.{statement}
 use Rattle.legacy.proofs.Queue.put.Tie as tie
+use Rattle.legacy.specs.Record.{queueMax}
 
 class-requires : tie.Need-class-requires
 class-requires c κs = search needs
@@ -37,7 +37,7 @@ add-requires : tie.Need-add-requires
 add-requires c κs =
     let start = c .before .before .before .before .before .before .before in
     let s = sound _ (start .pre .0) in
-    let low = first-low (2 ^ 41) (start .args .self .queues) (s .queue) in
+    let low = first-low queueMax (start .args .self .queues) (s .queue) in
     ((omega arith, start .pre .1), search needs)
 
 returns-2 : tie.Need-returns-2

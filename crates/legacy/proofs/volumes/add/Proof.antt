@@ -1,15 +1,16 @@
 -- `legacy::volumes::add` meets its contract: the places passed hold the size more.
 use borrow.Author.Needs.{needs}
 use borrow.Author.Tests.{leb-true}
-use Prim.Native.Nat.{_-_, _≤_, _^_}
+use Prim.Native.Nat.{_-_, _≤_}
 use mathlib.Core.Path.{_≡_, sym, _∙_}
 use native.Mathlib.Omega.{arith}
 use lib.ListN.{length, getD}
 use Rattle.units.proofs.Each.{each-at}
-use Rattle.legacy.specs.Open.{atMost}
+use Rattle.legacy.specs.Open.{classesMax, atMost}
 use Rattle.legacy.proofs.First.{onFirst, more, add-is, first-none, first-read, first-store, first-end}
 use Rattle.legacy.proofs.volumes.add.Statement.{statement}
 use Rattle.legacy.proofs.volumes.add.Tie as tie
+use Rattle.legacy.specs.Record.{queueMax}
 
 abbrev Inv-loop : tie.InvT-loop
 Inv-loop count size a₀ i₀ a i = (i ≤ count) × (a ≡ onFirst (more (size .0)) i a₀)
@@ -18,7 +19,7 @@ abbrev μ-loop : tie.MeasureT-loop
 μ-loop count size a₀ i₀ a i = count - i
 
 size : (c : tie.Start Inv-loop μ-loop) → c .args .count ≤ length (c .args .l)
-size c = let e : length (c .args .l) ≡ 8 = search needs in omega arith
+size c = let e : length (c .args .l) ≡ classesMax = search needs in omega arith
 
 loop-holds : tie.Need-loop-holds Inv-loop μ-loop
 loop-holds c = (omega arith, sym (first-none _ _))
@@ -30,12 +31,12 @@ array-copy-out-v : tie.Need-array-copy-out-v Inv-loop μ-loop
 array-copy-out-v c = search needs
 
 -- what stands at the place is as it came
-here : (c : tie.In-loop Inv-loop μ-loop) → getD (c .before .loop .a) (c .before .loop .i) (record { 0 = 0 }) .0 ≤ 2 ^ 41
+here : (c : tie.In-loop Inv-loop μ-loop) → getD (c .before .loop .a) (c .before .loop .i) (record { 0 = 0 }) .0 ≤ queueMax
 here c =
     let l = c .before .loop in
     let s = c .before .before in
     rw (first-read (more (s .args .size .0)) (l .i) (s .args .l) (l .a) (l .inv .1) (record { 0 = 0 }))
-    (leb-true _ _ (each-at (atMost (2 ^ 41)) (record { 0 = 0 }) (s .args .l) (s .args .count) (l .i) (size s) (c .loop-test .taken) (s .pre .1)))
+    (leb-true _ _ (each-at (atMost queueMax) (record { 0 = 0 }) (s .args .l) (s .args .count) (l .i) (size s) (c .loop-test .taken) (s .pre .1)))
 
 add-t12 : tie.Need-add-t12 Inv-loop μ-loop
 add-t12 c = omega (arith, here (c .before .before .before))

@@ -6,7 +6,7 @@ use mathlib.Core.Path.{_≡_, sym}
 use native.Mathlib.Omega.{arith}
 use lib.ListN.{length}
 use Rattle.units.proofs.Each.{Each, each-first, each-end, each-stop, each-step}
-use Rattle.legacy.specs.Open.{atLeast}
+use Rattle.legacy.specs.Open.{classesMax, atLeast}
 use Rattle.legacy.proofs.volumes.hold.Statement.{statement}
 use Rattle.legacy.proofs.volumes.hold.Tie as tie
 
@@ -17,7 +17,7 @@ abbrev μ-loop : tie.MeasureT-loop
 μ-loop count size l i₀ i = count - i
 
 size : (c : tie.Start Inv-loop μ-loop) → c .args .count ≤ length (c .args .t1)
-size c = let e : length (c .args .t1) ≡ 8 = search needs in omega arith
+size c = let e : length (c .args .t1) ≡ classesMax = search needs in omega arith
 
 loop-holds : tie.Need-loop-holds Inv-loop μ-loop
 loop-holds c = each-first _ _ _

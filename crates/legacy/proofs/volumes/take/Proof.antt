@@ -6,7 +6,7 @@ use mathlib.Core.Path.{_≡_, sym, _∙_}
 use native.Mathlib.Omega.{arith}
 use lib.ListN.{length, getD}
 use Rattle.units.proofs.Each.{each-at}
-use Rattle.legacy.specs.Open.{atLeast}
+use Rattle.legacy.specs.Open.{classesMax, atLeast}
 use Rattle.legacy.proofs.First.{onFirst, less, take-is, first-none, first-read, first-store, first-end}
 use Rattle.legacy.proofs.volumes.take.Statement.{statement}
 use Rattle.legacy.proofs.volumes.take.Tie as tie
@@ -18,7 +18,7 @@ abbrev μ-loop : tie.MeasureT-loop
 μ-loop count size a₀ i₀ a i = count - i
 
 size : (c : tie.Start Inv-loop μ-loop) → c .args .count ≤ length (c .args .l)
-size c = let e : length (c .args .l) ≡ 8 = search needs in omega arith
+size c = let e : length (c .args .l) ≡ classesMax = search needs in omega arith
 
 loop-holds : tie.Need-loop-holds Inv-loop μ-loop
 loop-holds c = (omega arith, sym (first-none _ _))

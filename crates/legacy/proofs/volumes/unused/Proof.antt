@@ -5,17 +5,17 @@ use Prim.Native.Nat.{_-_}
 use mathlib.Core.Path.{_≡_, sym}
 use lib.ListN.{length}
 use Rattle.units.proofs.Unused.{Rest, rest-first, rest-end, rest-stop, rest-step}
-use Rattle.legacy.specs.Open.{isZero}
+use Rattle.legacy.specs.Open.{classesMax, isZero}
 use Rattle.legacy.proofs.volumes.unused.Statement.{statement}
 use Rattle.legacy.proofs.volumes.unused.Tie as tie
 
 abbrev Inv-loop : tie.InvT-loop
-Inv-loop count l i₀ i = Rest isZero l 8 count i
+Inv-loop count l i₀ i = Rest isZero l classesMax count i
 
 abbrev μ-loop : tie.MeasureT-loop
-μ-loop count l i₀ i = 8 - i
+μ-loop count l i₀ i = classesMax - i
 
-size : (c : tie.Start Inv-loop μ-loop) → length (c .args .t1) ≡ 8
+size : (c : tie.Start Inv-loop μ-loop) → length (c .args .t1) ≡ classesMax
 size c = search needs
 
 loop-holds : tie.Need-loop-holds Inv-loop μ-loop

@@ -2,11 +2,11 @@
 use borrow.Author.Needs.{needs}
 use mathlib.Core.Bool.{Bool, true, false}
 use mathlib.Core.Path.{_≡_, sym}
-use Prim.Native.Nat.{ℕ, _≤_, _<_, _^_}
+use Prim.Native.Nat.{ℕ, _≤_, _<_}
 use native.Mathlib.Omega.{arith}
 use lib.IntN.{ℤ, pos, natAbs}
 use lib.Signed.{ltZ}
-use Rattle.poly.specs.Poly.{capacityTo}
+use Rattle.poly.specs.Poly.{stepMax, capacityTo}
 use Rattle.poly.specs.Search.{areaFrom}
 use Rattle.poly.proofs.Abs.{sfits}
 use Rattle.poly.proofs.Back.{rd, back}
@@ -44,7 +44,7 @@ module _ (c : tie.After-capacity) where
   known-back =
       back (c .capacity .ensures .0) (cap-fits _ _ (begin .pre .0) _ (window-from (c .before)) (window-to (c .before)))
 
-  known-bound : natAbs (rd (c .capacity .result)) ≤ 2 ^ 61
+  known-bound : natAbs (rd (c .capacity .result)) ≤ stepMax
   known-bound = rw known-back (cap-bound _ _ (begin .pre .0) _ (window-from (c .before)) (window-to (c .before)))
 
   abbrev sent : ℕ → ℤ

@@ -2,7 +2,7 @@
 use borrow.Author.Needs.{needs}
 use mathlib.Core.Path.{_≡_, sym}
 use mathlib.Core.Bool.{Bool}
-use Prim.Native.Nat.{ℕ, _+_, _-_, _≤_, _^_}
+use Prim.Native.Nat.{ℕ, _+_, _-_, _≤_}
 use native.Mathlib.Omega.{arith}
 use lib.IntN.{ℤ, natAbs}
 use lib.Signed.{ltZ}
@@ -16,6 +16,7 @@ use Rattle.poly.proofs.Halving.{Left, left-first, left-end, left-up, le
 use Rattle.poly.proofs.Near.{area-fits}
 use Rattle.poly.proofs.Polynome.halve.Statement.{statement}
 use Rattle.poly.proofs.Polynome.halve.Tie as tie
+use Rattle.poly.specs.Poly.{stepMax}
 
 abbrev Inv-loop : tie.InvT-loop
 Inv-loop self window known target low₀ top₀ low top = Left (areaFrom self (toZ w64 known)) (toZ w64 target) low₀ top₀ low top
@@ -29,7 +30,7 @@ area s = areaFrom (s .args .self) (rd (s .args .known))
 abbrev target : tie.Start Inv-loop μ-loop → ℤ
 target s = rd (s .args .target)
 
-known-bound : (s : tie.Start Inv-loop μ-loop) → natAbs (rd (s .args .known)) ≤ 2 ^ 61
+known-bound : (s : tie.Start Inv-loop μ-loop) → natAbs (rd (s .args .known)) ≤ stepMax
 known-bound s = rw (toZ-ofZ (s .fits .known)) (s .pre .1 .1)
 
 -- the loop's state, over the parameters

@@ -5,7 +5,7 @@ use mathlib.Core.Bool.{true}
 use mathlib.Core.Path.{_≡_, sym, _∙_}
 use lib.ListN.{drop}
 use Rattle.units.specs.Logic.{allOf}
-use Rattle.units.specs.Limits.{windowOk}
+use Rattle.units.specs.Limits.{listedMax, windowOk}
 use Rattle.units.proofs.Logic.{both-go, both-stop}
 use Rattle.units.proofs.Counted.{counted-none, counted-many, counted-is}
 use Rattle.contact.specs.Segments.{noDelay}
@@ -69,12 +69,12 @@ returns-4 c =
 returns-5 : tie.Need-returns-5
 returns-5 c =
     let four = c .before in
-    sym (record-listed _ (opens (four .before .before)) (unused-holds four) ∙ counted-none 64 _ _ (c .if5 .taken))
+    sym (record-listed _ (opens (four .before .before)) (unused-holds four) ∙ counted-none listedMax _ _ (c .if5 .taken))
 
 returns-6 : tie.Need-returns-6
 returns-6 c =
     let four = c .before .before in
-    sym (record-listed _ (opens (four .before .before)) (unused-holds four) ∙ counted-many 64 _ _ (c .before .if5 .left) (c .if6 .taken))
+    sym (record-listed _ (opens (four .before .before)) (unused-holds four) ∙ counted-many listedMax _ _ (c .before .if5 .left) (c .if6 .taken))
 
 bare-ok-requires : tie.Need-bare-ok-requires
 bare-ok-requires c κs = (c .if6 .left, opens (c .before .before .before .before) .window)
@@ -84,7 +84,7 @@ returns-7 c =
     let six = c .before .before in
     let four = six .before .before in
     sym (record-listed _ (opens (four .before .before)) (unused-holds four)
-    ∙ counted-is 64 _ _ (six .before .if5 .left) (six .if6 .left)
+    ∙ counted-is listedMax _ _ (six .before .if5 .left) (six .if6 .left)
     ∙ both-stop _ _ (sym (c .before .bare-ok .ensures) ∙ not-true _ (c .if7 .taken)))
 
 unused-requires : tie.Need-unused-requires
@@ -97,7 +97,7 @@ returns-8 c =
     let four = six .before .before in
     c .unused .ensures
     ∙ sym (record-listed _ (opens (four .before .before)) (unused-holds four)
-    ∙ counted-is 64 _ _ (six .before .if5 .left) (six .if6 .left)
+    ∙ counted-is listedMax _ _ (six .before .if5 .left) (six .if6 .left)
     ∙ both-go _ _ (sym (seven .before .bare-ok .ensures) ∙ not-false _ (seven .if7 .left)))
 
 pub ok-spec : {M : Type 1} → statement M

@@ -4,6 +4,7 @@ use Prim.Native.Nat.{ℕ, _-_, _≤_}
 use mathlib.Core.Path.{_≡_, sym, ap, _∙_}
 use native.Mathlib.Omega.{arith}
 use lib.ListN.{length, take, length-map}
+use Rattle.units.specs.Limits.{listedMax}
 use Rattle.units.specs.Answer.{interval}
 use Rattle.units.proofs.Loop.{Left, left-first}
 use Rattle.units.proofs.Places.{place-end, place-here, place-step}
@@ -20,7 +21,7 @@ Inv-loop self asked size segments n i₀ i = Left (loopOf (self .polynome) (aske
 abbrev μ-loop : tie.MeasureT-loop
 μ-loop self asked size segments n i₀ i = n - i
 
-size-of : (c : tie.Start Inv-loop μ-loop) → length (c .args .self .free .segments) ≡ 64
+size-of : (c : tie.Start Inv-loop μ-loop) → length (c .args .self .free .segments) ≡ listedMax
 size-of c = simp length-map at (c .good .0 .1 .1 .1 .1 .1 .1 .0 .1 .1 .0 .1 .0 .1)
 
 room : (c : tie.Start Inv-loop μ-loop) → c .args .self .free .count ≤ length (c .args .self .free .segments)

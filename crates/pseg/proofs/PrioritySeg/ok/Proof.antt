@@ -3,6 +3,7 @@ use borrow.Author.Needs.{needs}
 use borrow.Author.Tests.{not-true, not-false}
 use mathlib.Core.Bool.{true}
 use mathlib.Core.Path.{_≡_, sym, _∙_}
+use Rattle.units.specs.Limits.{listedMax}
 use Rattle.units.proofs.Logic.{both-go, both-stop}
 use Rattle.units.proofs.Counted.{counted-none, counted-many, counted-is}
 use Rattle.contact.specs.Record.{contactOk}
@@ -29,11 +30,11 @@ returns c = sym (both-stop _ _ (sym (c .before .ok .ensures) ∙ not-true _ (c .
 
 returns-2 : tie.Need-returns-2
 unfolding recordOk bookingsOk
-returns-2 c = sym (both-go _ _ (contact-holds (c .before)) ∙ counted-none 64 _ _ (c .if2 .taken))
+returns-2 c = sym (both-go _ _ (contact-holds (c .before)) ∙ counted-none listedMax _ _ (c .if2 .taken))
 
 returns-3 : tie.Need-returns-3
 unfolding recordOk bookingsOk
-returns-3 c = sym (both-go _ _ (contact-holds (c .before .before)) ∙ counted-many 64 _ _ (c .before .if2 .left) (c .if3 .taken))
+returns-3 c = sym (both-go _ _ (contact-holds (c .before .before)) ∙ counted-many listedMax _ _ (c .before .if2 .left) (c .if3 .taken))
 
 cover-ok-requires : tie.Need-cover-ok-requires
 cover-ok-requires c κs = c .if3 .left
@@ -44,7 +45,7 @@ returns-4 c =
     let three = c .before .before in
     let two = three .before in
     sym (both-go _ _ (contact-holds (two .before))
-    ∙ counted-is 64 _ _ (two .if2 .left) (three .if3 .left)
+    ∙ counted-is listedMax _ _ (two .if2 .left) (three .if3 .left)
     ∙ both-stop _ _ (sym (c .before .cover-ok .ensures) ∙ not-true _ (c .if4 .taken)))
 
 unused-requires : tie.Need-unused-requires
@@ -56,7 +57,7 @@ returns-5 c =
     let three = c .before .before .before in
     let two = three .before in
     c .unused .ensures
-    ∙ sym (both-go _ _ (contact-holds (two .before)) ∙ counted-is 64 _ _ (two .if2 .left) (three .if3 .left) ∙ both-go _ _ (cover-holds (c .before)))
+    ∙ sym (both-go _ _ (contact-holds (two .before)) ∙ counted-is listedMax _ _ (two .if2 .left) (three .if3 .left) ∙ both-go _ _ (cover-holds (c .before)))
 
 pub ok-spec : {M : Type 1} → statement M
 ok-spec =

@@ -1,6 +1,7 @@
 -- `seg::FreeVolume::cut` meets its contract: a record that keeps its rules has what the list's cut asks, and its room fits what is cut.
 use mathlib.Core.Path.{_≡_}
 use lib.ListN.{length, length-map}
+use Rattle.units.specs.Limits.{listedMax}
 use Rattle.contact.specs.Record.{ratesOf}
 use Rattle.free_list.proofs.CutRoom.{cut-changes}
 use Rattle.seg.proofs.Facts.{facts}
@@ -8,7 +9,7 @@ use Rattle.seg.proofs.RoomBounds.{cut-roomy}
 use Rattle.seg.proofs.FreeVolume.cut.Statement.{statement}
 use Rattle.seg.proofs.FreeVolume.cut.Tie as tie
 
-size : (c : tie.Start) → length (c .args .self .free .segments) ≡ 64
+size : (c : tie.Start) → length (c .args .self .free .segments) ≡ listedMax
 size c = simp length-map at (c .good .0 .1 .1 .1 .0 .1 .1 .0 .1 .0 .1)
 
 cut-requires : tie.Need-cut-requires

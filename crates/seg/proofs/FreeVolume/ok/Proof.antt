@@ -4,6 +4,7 @@ use borrow.Author.Tests.{not-true, not-false}
 use mathlib.Core.Bool.{true}
 use mathlib.Core.Path.{_≡_, sym, _∙_}
 use lib.Dec.{eqb}
+use Rattle.units.specs.Limits.{listedMax}
 use Rattle.units.specs.Logic.{both}
 use Rattle.units.proofs.Logic.{both-go, both-stop}
 use Rattle.units.proofs.Counted.{counted-none, counted-many, counted-is}
@@ -32,10 +33,10 @@ returns : tie.Need-returns
 returns c = sym (record-is _ ∙ both-stop _ _ (sym (c .before .ok .ensures) ∙ not-true _ (c .if1 .taken)))
 
 returns-2 : tie.Need-returns-2
-returns-2 c = sym (record-is _ ∙ both-go _ _ (contact-holds (c .before)) ∙ counted-none 64 _ _ (c .if2 .taken))
+returns-2 c = sym (record-is _ ∙ both-go _ _ (contact-holds (c .before)) ∙ counted-none listedMax _ _ (c .if2 .taken))
 
 returns-3 : tie.Need-returns-3
-returns-3 c = sym (record-is _ ∙ both-go _ _ (contact-holds (c .before .before)) ∙ counted-many 64 _ _ (c .before .if2 .left) (c .if3 .taken))
+returns-3 c = sym (record-is _ ∙ both-go _ _ (contact-holds (c .before .before)) ∙ counted-many listedMax _ _ (c .before .if2 .left) (c .if3 .taken))
 
 listed-ok-requires : tie.Need-listed-ok-requires
 listed-ok-requires c κs =
@@ -47,7 +48,7 @@ returns-4 c =
     let three = c .before .before in
     let two = three .before in
     sym (record-is _ ∙ both-go _ _ (contact-holds (two .before))
-    ∙ counted-is 64 _ _ (two .if2 .left) (three .if3 .left)
+    ∙ counted-is listedMax _ _ (two .if2 .left) (three .if3 .left)
     ∙ both-stop _ _ (sym (c .before .listed-ok .ensures) ∙ not-true _ (c .if4 .taken)))
 
 unused-requires : tie.Need-unused-requires
@@ -58,7 +59,7 @@ returns-5 c =
     let three = c .before .before .before in
     let two = three .before in
     c .unused .ensures
-    ∙ sym (record-is _ ∙ both-go _ _ (contact-holds (two .before)) ∙ counted-is 64 _ _ (two .if2 .left) (three .if3 .left) ∙ both-go _ _ (list-holds (c .before)))
+    ∙ sym (record-is _ ∙ both-go _ _ (contact-holds (two .before)) ∙ counted-is listedMax _ _ (two .if2 .left) (three .if3 .left) ∙ both-go _ _ (list-holds (c .before)))
 
 pub ok-spec : {M : Type 1} → statement M
 ok-spec =
