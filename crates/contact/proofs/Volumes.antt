@@ -3,11 +3,11 @@ use Prim.Native.Nat.{ℕ, _-_, _*_, _%_, _<_, _≤_}
 use mathlib.Core.Bool.{Bool, true, false}
 use mathlib.Core.Path.{_≡_, refl, sym, _∙_}
 use mathlib.Core.List.{List, [], _∷_, map}
-use native.Mathlib.Nat.{div-add-mod', div-le-self}
+use native.Mathlib.Nat.{div-add-mod'}
 use native.Mathlib.Omega.{arith}
 use lib.Dec.{eqb}
 use borrow.Author.Tests.{eqb-true, ltb-true, leb-true, eq-eqb, lt-ltb, le-leb}
-use Rattle.units.specs.Limits.{volumeMax, rateMax}
+use Rattle.units.specs.Limits.{volumeMax}
 use Rattle.units.specs.declared.Interval.{Interval}
 use Rattle.units.specs.Logic.{both, allOf}
 use Rattle.units.proofs.Logic.{both-go, both-stop, both-fst, both-snd, both-yes, same-test, all-go, all-head, all-tail, all-none}
@@ -30,6 +30,7 @@ pub record Takes (s : VolumeSegment) (a room : ℕ) : Type 0 where
   pub start : s .start .0 ≡ a
   pub some : s .start .0 < s .end .0
   pub within : s .volume .0 ≤ room
+  pub slow : rateOk (rateSegment s) ≡ true
   pub whole : s .volume .0 ≡ rateOf s * (s .end .0 - s .start .0)
 
 module _ (s : VolumeSegment) (a room : ℕ) where
@@ -38,11 +39,13 @@ module _ (s : VolumeSegment) (a room : ℕ) where
   takes e =
       let e1 = both-snd _ _ e in
       let e2 = both-snd _ _ e1 in
-      let none : s .volume .0 % (s .end .0 - s .start .0) ≡ 0 = eqb-true _ _ (both-snd _ _ e2) in
+      let e3 = both-snd _ _ e2 in
+      let none : s .volume .0 % (s .end .0 - s .start .0) ≡ 0 = eqb-true _ _ (both-snd _ _ e3) in
       record {
         start = eqb-true _ _ (both-fst _ _ e);
         some = ltb-true _ _ (both-fst _ _ e1);
         within = leb-true _ _ (both-fst _ _ e2);
+        slow = both-fst _ _ e3;
         whole = omega (arith, div-add-mod' (s .volume .0) (s .end .0 - s .start .0));
       }
 
@@ -50,7 +53,7 @@ module _ (s : VolumeSegment) (a room : ℕ) where
   unfolding takesOf
   takes-back t =
       let none : s .volume .0 % (s .end .0 - s .start .0) ≡ 0 = omega (arith, t .whole, div-add-mod' (s .volume .0) (s .end .0 - s .start .0)) in
-      both-yes _ _ (eq-eqb _ _ (t .start)) (both-yes _ _ (lt-ltb _ _ (t .some)) (both-yes _ _ (le-leb _ _ (t .within)) (eq-eqb _ _ none)))
+      both-yes _ _ (eq-eqb _ _ (t .start)) (both-yes _ _ (lt-ltb _ _ (t .some)) (both-yes _ _ (le-leb _ _ (t .within)) (both-yes _ _ (t .slow) (eq-eqb _ _ none))))
 
 -- the pass: the date reached and the volume left, then the segments
 unfoldable pub taken : ℕ → (ℕ × ℕ) → List VolumeSegment → Bool
@@ -72,14 +75,13 @@ module _ (b : ℕ) (at : ℕ × ℕ) where
     taken-go e = both-go _ _ e
 
 -- one segment more is kept where it is taken
-kept-more : (b a room : ℕ) (s : VolumeSegment) (l : List VolumeSegment) → room ≤ volumeMax → Takes s a room → Kept b (s .end .0) (room - s .volume .0) l → Kept b a room (s ∷ l)
+kept-more : (b a room : ℕ) (s : VolumeSegment) (l : List VolumeSegment) → Takes s a room → Kept b (s .end .0) (room - s .volume .0) l → Kept b a room (s ∷ l)
 unfolding totalOf
-kept-more b a room s l h t k =
-    let small : rateOf s ≤ rateMax = omega (arith, div-le-self (s .volume .0) (s .end .0 - s .start .0), t .within) in
+kept-more b a room s l t k =
     record {
       spanned = spans-go volumeSpan b s l a (t .start) (t .some) ∙ k .spanned;
       whole = all-go wholeOf s l (eq-eqb _ _ (t .whole)) ∙ k .whole;
-      rates = all-go rateOk (rateSegment s) (map rateSegment l) (le-leb _ _ small) ∙ k .rates;
+      rates = all-go rateOk (rateSegment s) (map rateSegment l) (t .slow) ∙ k .rates;
       total = omega (arith, t .whole, t .within, k .total);
     }
 
@@ -92,6 +94,7 @@ kept-first b a room s l k =
       start = spans-start volumeSpan b s l a (k .spanned);
       some = spans-some volumeSpan b s l a (k .spanned);
       within = omega (arith, k .total);
+      slow = all-head rateOk (rateSegment s) (map rateSegment l) (k .rates);
       whole = whole;
     }
 
@@ -106,12 +109,12 @@ kept-rest b a room s l k =
       total = omega (arith, k .total, t .whole);
     }
 
-pub taken-kept : (b : ℕ) (at : ℕ × ℕ) (l : List VolumeSegment) → at .1 ≤ volumeMax → taken b at l ≡ true → Kept b (at .0) (at .1) l
+pub taken-kept : (b : ℕ) (at : ℕ × ℕ) (l : List VolumeSegment) → taken b at l ≡ true → Kept b (at .0) (at .1) l
 unfolding taken totalOf
-taken-kept b at [] h e = record { spanned = spans-end volumeSpan b (at .0) ∙ e; whole = all-none wholeOf; rates = all-none rateOk; total = omega arith }
-taken-kept b at (s ∷ l) h e =
+taken-kept b at [] e = record { spanned = spans-end volumeSpan b (at .0) ∙ e; whole = all-none wholeOf; rates = all-none rateOk; total = omega arith }
+taken-kept b at (s ∷ l) e =
     let t : Takes s (at .0) (at .1) = takes s (at .0) (at .1) (both-fst _ _ e) in
-    kept-more b (at .0) (at .1) s l h t (taken-kept b (s .end .0, at .1 - s .volume .0) l (omega arith) (both-snd _ _ e))
+    kept-more b (at .0) (at .1) s l t (taken-kept b (s .end .0, at .1 - s .volume .0) l (both-snd _ _ e))
 
 pub kept-taken : (b : ℕ) (at : ℕ × ℕ) (l : List VolumeSegment) → Kept b (at .0) (at .1) l → taken b at l ≡ true
 unfolding taken
@@ -133,4 +136,4 @@ module _ (w : Interval) (l : List VolumeSegment) where
 
   pub taken-is : volumesOk w l ≡ taken (w .end .0) (w .start .0, volumeMax) l
   taken-is =
-      same-test _ _ (λ e. kept-taken _ (w .start .0, volumeMax) l (volumes-kept e)) (λ e. kept-volumes (taken-kept _ (w .start .0, volumeMax) l (omega arith) e))
+      same-test _ _ (λ e. kept-taken _ (w .start .0, volumeMax) l (volumes-kept e)) (λ e. kept-volumes (taken-kept _ (w .start .0, volumeMax) l e))

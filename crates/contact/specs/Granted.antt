@@ -11,7 +11,7 @@ use Rattle.units.specs.Logic.{both, pick, allOf}
 use Rattle.segmentation.specs.declared.RateSegment.{RateSegment}
 use Rattle.segmentation.specs.declared.VolumeSegment.{VolumeSegment}
 use Rattle.contact.specs.Segments.{volumeSpan, spans, rateSegment, wholeOf}
-use Rattle.contact.specs.Open.{totalOf, volumeOk}
+use Rattle.contact.specs.Open.{rateOk, totalOf, volumeOk}
 use Rattle.contact.specs.declared.opening.Total.{Total}
 use Rattle.contact.specs.declared.opening.Total.the-variants.{Of, Over}
 
@@ -39,7 +39,8 @@ takesOf s at room =
     both (eqb (s .start .0) at)
     (both (ltb (s .start .0) (s .end .0))
     (both (leb (s .volume .0) room)
-    (eqb (s .volume .0 % (s .end .0 - s .start .0)) 0)))
+    (both (rateOk (rateSegment s))
+    (eqb (s .volume .0 % (s .end .0 - s .start .0)) 0))))
 
 -- the volume segments are the window, each a rate times its length, the rates and their total inside the limits
 unfoldable pub volumesOk : Interval → List VolumeSegment → Bool

@@ -5,6 +5,7 @@ use segmentation::VolumeSegment;
 use units::Date;
 use units::Delay;
 use units::Interval;
+use units::Rate;
 use units::Volume;
 ghost use mathlib.Core.Path.{_≡_};
 ghost use Prim.Native.Nat.{_≤_};
@@ -62,7 +63,7 @@ pub fn delays_are(
     delays_cover(delays, count, window)
 }
 
-// Does the volume segment follow, is it not empty, a rate times its length, and within the volume that is left?
+// Does the volume segment follow, is it not empty, within the volume that is left, and a rate inside its limits times its length?
 pub fn takes(s: VolumeSegment, at: Date, room: Volume) -> bool
     ensures { λ r. ⌜ r ≡ takesOf s (at .0) (room .0) ⌝ }
 {
@@ -76,6 +77,9 @@ pub fn takes(s: VolumeSegment, at: Date, room: Volume) -> bool
         return false;
     }
     if room.0 < v {
+        return false;
+    }
+    if Rate::MAX < v / (b - a) {
         return false;
     }
     v % (b - a) == 0

@@ -1,19 +1,17 @@
 -- `poly::mag_step` meets its contract: a product is within the limit where the quotient says so.
 use mathlib.Core.Path.{_≡_}
 use mathlib.Core.Logic.{⊎-elim}
-use Prim.Native.Nat.{ℕ, _*_, _/_, _≤_, _<_}
-use native.Mathlib.Nat.{div-lt-iff-lt-mul, le-div-iff-mul-le, mul-zero}
+use Prim.Native.Nat.{ℕ, _*_, _≤_, _<_}
+use native.Mathlib.Nat.{mul-zero}
 use native.Mathlib.Omega.{arith}
 use borrow.Author.Needs.{needs}
+use Rattle.units.proofs.Numbers.{product-within, product-beyond}
 use Rattle.poly.proofs.mag_step.Statement.{statement}
 use Rattle.poly.proofs.mag_step.Tie as tie
 use Rattle.poly.specs.Poly.{stepMax}
 
-within : (v m : ℕ) → (m ≡ 0 → ⊥) → v ≤ stepMax / m → v * m ≤ stepMax
-within v m h = le-div-iff-mul-le {k = m} {x = v} {y = stepMax} (omega arith) .0
-
-beyond : (v m : ℕ) → (m ≡ 0 → ⊥) → stepMax / m < v → stepMax < v * m
-beyond v m h = div-lt-iff-lt-mul {k = m} {x = stepMax} {y = v} (omega arith) .0
+some : (m : ℕ) → (m ≡ 0 → ⊥) → 0 < m
+some m h = omega arith
 
 nought : (v m : ℕ) → m ≡ 0 → v * m ≡ 0
 nought v m e = rw e (mul-zero v)
@@ -22,7 +20,7 @@ product : (c : tie.Joined1) → c .before .args .v * c .before .args .m ≤ step
 product c =
     let v = c .before .args .v in
     let m = c .before .args .m in
-    ⊎-elim (λ w. within v m (w .0 .taken) (w .1 .left)) (λ w. omega (arith, nought v m (w .left))) (c .if1 .came)
+    ⊎-elim (λ w. product-within _ m v (some m (w .0 .taken)) (w .1 .left)) (λ w. omega (arith, nought v m (w .left))) (c .if1 .came)
 
 div-if2 : tie.Need-div-if2
 div-if2 c = search needs
@@ -32,7 +30,8 @@ add-result c = search needs
 
 returns : tie.Need-returns
 returns c =
-    omega (arith, beyond (c .before .before .args .v) (c .before .before .args .m) (c .before .if1 .taken) (c .if2 .taken))
+    let m = c .before .before .args .m in
+    omega (arith, product-beyond _ m (c .before .before .args .v) (some m (c .before .if1 .taken)) (c .if2 .taken))
 
 mul-p : tie.Need-mul-p
 mul-p c = omega (arith, product c)
