@@ -11,7 +11,7 @@ use borrow.Author.Tests.{leb-true, le-leb, lt-leb}
 use Rattle.units.specs.declared.Interval.{Interval}
 use Rattle.units.specs.Limits.{lengthMax, volumeMax, rateMax, windowOk}
 use Rattle.units.specs.Logic.{both, pick, allOf}
-use Rattle.units.proofs.Logic.{both-stop, both-not, both-fst, both-yes, all-go, all-stop, all-none, all-head, all-tail}
+use Rattle.units.proofs.Logic.{both-stop, both-not, both-snd, both-yes, all-go, all-stop, all-none}
 use Rattle.units.proofs.Windows.{Window, window}
 use Rattle.units.proofs.Places.{place-holds}
 use Rattle.segmentation.specs.declared.RateSegment.{RateSegment}
@@ -31,12 +31,11 @@ forward lo b (s ∷ l) a h k e =
     let i : Inside a b (rateSpan s) = spans-inside rateSpan b s l a e in
     (record { forth = i .some; short = omega arith }, forward lo b l (s .end .0) (omega arith) k (spans-rest rateSpan b s l a e))
 
--- and with their rates inside the limits, each volume fits
-pub fitting : (l : List RateSegment) → Forward l → allOf rateOk l ≡ true → AllFitting l
-unfolding Forward AllFitting
-fitting [] f e = tt
-fitting (s ∷ l) f e =
-    (record { spanning = f .0; small = leb-true _ _ (all-head rateOk s l e) }, fitting l (f .1) (all-tail rateOk s l e))
+-- and with their total inside the limit, each volume fits
+pub fitting : (l : List RateSegment) → Forward l → totalOf l ≤ volumeMax → AllFitting l
+unfolding Forward AllFitting totalOf
+fitting [] f h = tt
+fitting (s ∷ l) f h = (record { spanning = f .0; small = omega arith }, fitting l (f .1) (omega arith))
 
 -- what the opening's tests tell of each segment
 module _ (w : Interval) (n : ℕ) (l : List RateSegment) (h : windowOk w ≡ true) (e : covers rateSpan w n l ≡ true) where
@@ -46,7 +45,7 @@ module _ (w : Interval) (n : ℕ) (l : List RateSegment) (h : windowOk w ≡ tru
 
   pub rates-fitting : volumeOk (take n l) ≡ true → AllFitting (take n l)
   unfolding volumeOk
-  rates-fitting v = fitting (take n l) rates-forward (both-fst _ _ v)
+  rates-fitting v = fitting (take n l) rates-forward (leb-true _ _ (both-snd _ _ v))
 
 module _ (l : List RateSegment) (n i : ℕ) (z : RateSegment) (size : n ≤ length l) (lt : i < n) where
   pub forward-at : Forward (take n l) → Spanning (getD l i z)
@@ -56,6 +55,10 @@ module _ (l : List RateSegment) (n i : ℕ) (z : RateSegment) (size : n ≤ leng
   pub fitting-at : AllFitting (take n l) → Fitting (getD l i z)
   unfolding AllFitting
   fitting-at = place-holds Fitting AllFitting (λ s k q. q .0) (λ s k q. q .1) z l n i size lt
+
+-- what `volume_of` gives
+pub holds : (s : RateSegment) (r : VolumeSegment) → r ≡ volumeOf s → r .volume .0 ≡ s .rate .0 * (s .end .0 - s .start .0)
+holds s r is = ap (λ (g : VolumeSegment). g .volume .0) is
 
 -- the total in one pass, from the sum reached on
 abbrev pub totalFrom : ℕ → List RateSegment → Total
@@ -73,17 +76,14 @@ module _ (v : ℕ) (s : RateSegment) (l : List RateSegment) where
   pub total-fast : rateMax < s .rate .0 → totalFrom v (s ∷ l) ≡ Over
   total-fast h = rw (both-stop (allOf rateOk (s ∷ l)) (leb (v + totalOf (s ∷ l)) volumeMax) (all-stop rateOk s l (lt-leb _ _ h)))
 
+  pub total-over : volumeMax - v < s .rate .0 * (s .end .0 - s .start .0) → totalFrom v (s ∷ l) ≡ Over
+  unfolding totalOf
+  total-over h =
+      let more : volumeMax < v + (s .rate .0 * (s .end .0 - s .start .0) + totalOf l) = omega arith in
+      rw (both-not (allOf rateOk (s ∷ l)) _ (lt-leb _ _ more))
+
   module _ (r : VolumeSegment) (is : r ≡ volumeOf s) where
-    holds : r .volume .0 ≡ s .rate .0 * (s .end .0 - s .start .0)
-    holds = ap (λ (g : VolumeSegment). g .volume .0) is
-
-    pub total-over : volumeMax - v < r .volume .0 → totalFrom v (s ∷ l) ≡ Over
-    unfolding totalOf
-    total-over h =
-        let more : volumeMax < v + (s .rate .0 * (s .end .0 - s .start .0) + totalOf l) = omega (arith, holds) in
-        rw (both-not (allOf rateOk (s ∷ l)) _ (lt-leb _ _ more))
-
     pub total-go : s .rate .0 ≤ rateMax → totalFrom v (s ∷ l) ≡ totalFrom (v + r .volume .0) l
     unfolding totalOf
     total-go h =
-        rw (holds, all-go rateOk s l (le-leb _ _ h), add-assoc v (s .rate .0 * (s .end .0 - s .start .0)) (totalOf l))
+        rw (holds s r is, all-go rateOk s l (le-leb _ _ h), add-assoc v (s .rate .0 * (s .end .0 - s .start .0)) (totalOf l))

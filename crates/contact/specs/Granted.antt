@@ -1,11 +1,11 @@
 -- What inner functions take for granted or compute on the way. No promise of a public call rests on it.
-use Prim.Native.Nat.{ℕ, _+_, _-_, _%_, _<_, _≤_}
+use Prim.Native.Nat.{ℕ, _+_, _-_, _*_, _%_, _<_, _≤_}
 use mathlib.Core.Bool.{Bool}
 use mathlib.Core.List.{List, [], _∷_}
 use lib.Dec.{leb, ltb, eqb}
 use lib.ListN.{take}
 use mathlib.Core.List.{map}
-use Rattle.units.specs.Limits.{lengthMax, rateMax, segmentsMax}
+use Rattle.units.specs.Limits.{lengthMax, volumeMax, segmentsMax}
 use Rattle.units.specs.declared.Interval.{Interval}
 use Rattle.units.specs.Logic.{both, pick, allOf}
 use Rattle.segmentation.specs.declared.RateSegment.{RateSegment}
@@ -20,10 +20,10 @@ pub record Spanning (s : RateSegment) : Type 0 where
   pub forth : s .start .0 < s .end .0
   pub short : s .end .0 ≤ s .start .0 + lengthMax
 
--- the rate times the length fits
+-- the rate times the length is within the volume's limit
 pub record Fitting (s : RateSegment) : Type 0 where
   pub spanning : Spanning s
-  pub small : s .rate .0 ≤ rateMax
+  pub small : s .rate .0 * (s .end .0 - s .start .0) ≤ volumeMax
 
 unfoldable pub Forward : List RateSegment → Type 0
 Forward [] = Unit

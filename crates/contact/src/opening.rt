@@ -96,10 +96,10 @@ pub fn total_of(rates: [RateSegment; RateSegment::COUNT_MAX], count: usize) -> T
         if Rate::MAX < s.rate.0 {
             break Total::Over;
         }
-        let v = volume_of(s);
-        if Volume::MAX - sum.0 < v.volume.0 {
+        if (Volume::MAX - sum.0) / (s.end.0 - s.start.0) < s.rate.0 {
             break Total::Over;
         }
+        let v = volume_of(s);
         sum = Volume(sum.0 + v.volume.0);
         i += 1;
     }

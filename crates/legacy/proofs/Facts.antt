@@ -1,14 +1,12 @@
 -- What the record's test tells: the window, the rate, the delay, the class count, and every queue and budget are inside their limits.
-use Prim.Native.Nat.{ℕ, zero, suc, _-_, _*_, _<_, _≤_, _^_}
+use Prim.Native.Nat.{ℕ, zero, suc, _-_, _*_, _≤_}
 use mathlib.Core.Bool.{true}
 use mathlib.Core.Path.{_≡_, sym, _∙_}
 use mathlib.Core.List.{List, [], _∷_}
-use native.Mathlib.Nat.{mul-le-mul, lt-of-le-of-lt}
 use native.Mathlib.Omega.{arith}
-use lib.Dec.{lit<}
 use lib.ListN.{take, drop, getD}
 use borrow.Author.Tests.{leb-true, le-leb, eqb-true}
-use Rattle.units.specs.Limits.{lengthMax, volumeMax, rateMax, delayMax}
+use Rattle.units.specs.Limits.{volumeMax, rateMax, delayMax}
 use Rattle.units.specs.declared.Volume.{Volume}
 use Rattle.units.specs.declared.Interval.{Interval}
 use Rattle.units.specs.Logic.{pick, allOf}
@@ -44,10 +42,6 @@ pub first-low : (m : ℕ) (l : List Volume) → ((k : ℕ) → getD l k (record 
 first-low m l h zero = all-none (atMost m)
 first-low m [] h (suc j) = all-none (atMost m)
 first-low m (v ∷ l) h (suc j) = all-go (atMost m) v (take j l) (le-leb (v .0) m (h 0)) ∙ first-low m l (λ k. h (suc k)) j
-
--- a length times a rate fits in 64 bits
-pub product-fits : {a b : ℕ} → a ≤ lengthMax → b ≤ rateMax → a * b < 2 ^ 64
-product-fits ha hb = lt-of-le-of-lt (mul-le-mul ha hb) (lit< tt)
 
 pub record Rated (w : Interval) (r : ℕ) : Type 0 where
   pub some : 1 ≤ r

@@ -105,7 +105,7 @@ impl Queue {
         if Rate::MAX < rate.0 {
             return false;
         }
-        (window.end.0 - window.start.0) * rate.0 <= Volume::MAX
+        rate.0 <= Volume::MAX / (window.end.0 - window.start.0)
     }
 
     // 1 to 8 classes, and a budget inside its limits for each where there are budgets; else zero.

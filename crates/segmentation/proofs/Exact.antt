@@ -1,9 +1,9 @@
 -- The end found segment by segment is the end in exact terms.
-use Prim.Native.Nat.{ℕ, zero, suc, _+_, _-_, _*_, _/_, _%_, _<_, _≤_}
+use Prim.Native.Nat.{ℕ, suc, _+_, _-_, _*_, _/_, _%_, _<_, _≤_}
 use mathlib.Core.Path.{_≡_, refl, sym, ap, _∙_}
 use mathlib.Core.List.{List, [], _∷_}
 use mathlib.Core.Logic.{⊎-elim}
-use native.Mathlib.Nat.{zero-mul, suc-mul, mul-comm, mul-le-mul-left, mul-lt-mul-of-pos-left, le-of-mul-le-mul-left, lt-of-mul-lt-mul-left, le-of-suc-le-suc, div-add-mod', mod-lt, eq-or-lt-of-le}
+use native.Mathlib.Nat.{suc-mul, mul-comm, mul-le-mul-left, mul-lt-mul-of-pos-left, le-of-mul-le-mul-left, lt-of-mul-lt-mul-left, le-of-suc-le-suc, div-add-mod', mod-lt, eq-or-lt-of-le}
 use native.Mathlib.Omega.{arith}
 use borrow.Author.Tests.{eq-eqb, ne-eqb}
 use Rattle.units.proofs.Numbers.{le-or-lt, eq-or-ne}
@@ -14,6 +14,7 @@ use Rattle.segmentation.specs.Granted.{Run, Covers}
 use Rattle.segmentation.specs.Capacity.{rateOf, capOf}
 use Rattle.segmentation.specs.End.{Reach, closeOf, roundOf, byDeadline, endBy, endOf}
 use Rattle.segmentation.proofs.Capacity.{cap-split, cap-flat, cap-none, cap-past, cap-in}
+use Rattle.segmentation.proofs.Segment.{pos-left}
 use Rattle.segmentation.proofs.Reach.{Reached, first-unique, Found, found, lost, reach-is, end-by, end-never}
 use Rattle.segmentation.proofs.SegEnd.{carriedOf, segEnd, seg-none, seg-skip, seg-here, seg-on}
 
@@ -60,11 +61,6 @@ module _ (l : List VolumeSegment) (a : ℕ) (c : Covers a l) where
   pub end-exact : (v d : ℕ) → Exact l a v d (endOf l a v d)
   unfolding endOf
   end-exact v d = found-exact v d _ (reach-is l a v (closeOf a l - a))
-
--- a product that is above 0 has a first factor above 0
-pos-left : (r n v : ℕ) → 0 < v → v ≤ r * n → 0 < r
-pos-left zero n v p h = omega (arith, zero-mul n)
-pos-left (suc r) n v p h = omega arith
 
 -- The segment covers the rest: the first tick is the quotient by its rate, or the next.
 module _ (s : VolumeSegment) (l : List VolumeSegment) (a v d : ℕ)

@@ -60,12 +60,21 @@ impl DelaySegment {
 }
 
 impl VolumeSegment {
-    // From dates to a volume: what the segment still carries from the date on.
+    // From a volume to a rate: the segment holds its rate times its length.
+    fn rate(self) -> Rate
+        requires { ⌜ SegOk self ⌝ }
+        ensures { λ r. ⌜ r .0 ≡ rateOf self ⌝ }
+    {
+        Rate(self.volume.0 / (self.end.0 - self.start.0))
+    }
+
+    // From dates to a volume: what the segment still carries from the date on, its volume less what is past.
     pub fn carried(self, from: Date) -> Volume
         requires { ⌜ SegOk self ⌝ ∗ ⌜ (self .start .0 ≤ from .0) × (from .0 ≤ self .end .0) ⌝ }
         ensures { λ r. ⌜ r .0 ≡ rateOf self * (self .end .0 - from .0) ⌝ }
     {
-        Volume(self.volume.0 * (self.end.0 - from.0) / (self.end.0 - self.start.0))
+        let rate = self.rate();
+        Volume(self.volume.0 - rate.0 * (from.0 - self.start.0))
     }
 
     // From a volume to a date: when the rest is sent that starts at the date and that the segment covers.
@@ -73,7 +82,8 @@ impl VolumeSegment {
         requires { ⌜ SegOk self ⌝ ∗ ⌜ (from .0 ≤ self .end .0) × ((0 < rest .0) × (rest .0 ≤ self .volume .0)) ⌝ }
         ensures { λ r. ⌜ r .0 ≡ from .0 + rest .0 / rateOf self ⌝ }
     {
-        Date(from.0 + rest.0 * (self.end.0 - self.start.0) / self.volume.0)
+        let rate = self.rate();
+        Date(from.0 + rest.0 / rate.0)
     }
 
     // What the segment carries between two dates.
@@ -86,7 +96,8 @@ impl VolumeSegment {
         if hi.0 <= lo.0 {
             return Volume(0);
         }
-        Volume(self.volume.0 * (hi.0 - lo.0) / (self.end.0 - self.start.0))
+        let rate = self.rate();
+        Volume(rate.0 * (hi.0 - lo.0))
     }
 }
 

@@ -1,12 +1,11 @@
 -- Laws of numbers that omega does not find: one of two orders holds, and a quotient tells how large a product is.
-use Prim.Native.Nat.{ℕ, zero, suc, _*_, _/_, _<_, _≤_, _^_}
+use Prim.Native.Nat.{ℕ, zero, suc, _*_, _/_, _<_, _≤_}
 use mathlib.Core.Path.{_≡_, sym, _∙_}
 use mathlib.Core.Logic.{⊎-elim, _⊎_, inl, inr}
-use native.Mathlib.Nat.{eq-or-lt-of-le, mul-le-mul, lt-of-le-of-lt, mul-comm, le-div-iff-mul-le, div-lt-iff-lt-mul}
+use native.Mathlib.Nat.{eq-or-lt-of-le, mul-comm, le-div-iff-mul-le, div-lt-iff-lt-mul}
 use native.Mathlib.Omega.{arith}
-use lib.Dec.{leb, lit<}
+use lib.Dec.{leb}
 use borrow.Author.Tests.{le-leb, lt-leb}
-use Rattle.units.specs.Limits.{lengthMax, volumeMax}
 
 pub le-or-lt : (n m : ℕ) → (n ≤ m) ⊎ (m < n)
 le-or-lt zero m = inl (omega arith)
@@ -31,7 +30,3 @@ module _ (most length rate : ℕ) (some : 0 < length) where
       (λ (h : rate ≤ most / length). le-leb _ _ h ∙ sym (le-leb (length * rate) most (omega (arith, product-within h, mul-comm length rate))))
       (λ (h : most / length < rate). lt-leb _ _ h ∙ sym (lt-leb (length * rate) most (omega (arith, product-beyond h, mul-comm length rate))))
       (le-or-lt rate (most / length))
-
--- a volume or rate times a length fits in 64 bits
-pub fits62 : {a b : ℕ} → a ≤ volumeMax → b ≤ lengthMax → a * b < 2 ^ 64
-fits62 ha hb = lt-of-le-of-lt (mul-le-mul ha hb) (lit< tt)

@@ -1,11 +1,13 @@
 -- `legacy::Queue::rate_ok` meets its contract: each test that fails answers no.
 use borrow.Author.Tests.{le-leb, lt-leb}
 use mathlib.Core.Path.{sym, _∙_}
+use Prim.Native.Nat.{_-_}
 use native.Mathlib.Omega.{arith}
+use Rattle.units.specs.Limits.{volumeMax}
+use Rattle.units.proofs.Numbers.{product-test}
 use Rattle.units.proofs.Logic.{both-go, both-stop}
 use Rattle.units.proofs.Windows.{window}
 use Rattle.legacy.specs.Open.{rateOk}
-use Rattle.legacy.proofs.Facts.{product-fits}
 use Rattle.legacy.proofs.Queue.rate_ok.Statement.{statement}
 use Rattle.legacy.proofs.Queue.rate_ok.Tie as tie
 
@@ -20,14 +22,17 @@ returns-2 c = sym (both-go _ _ (le-leb _ _ (c .before .before .if1 .left)) ∙ b
 sub-result : tie.Need-sub-result
 sub-result c = let w = window _ (c .before .before .before .before .before .pre) in omega arith
 
-mul-result : tie.Need-mul-result
-mul-result c = let w = window _ (c .before .before .before .before .before .before .pre) in record { fits = product-fits (omega arith) (omega arith) }
+div-result : tie.Need-div-result
+div-result c = let w = window _ (c .before .before .before .before .before .pre) in omega arith
 
 returns-3 : tie.Need-returns-3
 unfolding rateOk
 returns-3 c =
     let two = c .before .before in
-    sym (both-go _ _ (le-leb _ _ (two .before .before .if1 .left)) ∙ both-go _ _ (le-leb _ _ (two .if2 .left)))
+    let s = two .before .before .before .before in
+    let w = window _ (s .pre) in
+    product-test volumeMax (s .args .window .end .0 - s .args .window .start .0) (s .args .rate .0) (omega arith)
+    ∙ sym (both-go _ _ (le-leb _ _ (two .before .before .if1 .left)) ∙ both-go _ _ (le-leb _ _ (two .if2 .left)))
 
 pub rate-ok-spec : {M : Type 1} → statement M
-rate-ok-spec = tie.close (tie.spec returns returns-2 sub-result mul-result returns-3)
+rate-ok-spec = tie.close (tie.spec returns returns-2 sub-result div-result returns-3)
