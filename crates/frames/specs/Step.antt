@@ -13,10 +13,11 @@ use Rattle.frames.specs.declared.Stepped.{Stepped}
 use Rattle.frames.specs.Opening.{noFrame, freeFrame, priorityFrame, polynomialFrame, queueFrame}
 use Rattle.frames.specs.Calls.{offerFrame, bookFrame, listFrame, enqueueFrame, dequeueFrame, roomFrame}
 
--- at most 2,048 digits, and nothing else
+-- a line has at most 2,048 digits
 abbrev pub digitsMax : ℕ
 digitsMax = 2048
 
+-- no more digits than that, and nothing else
 unfoldable pub isLine : List ℕ → Bool
 isLine line = both (leb (length line) digitsMax) (cleanOf line)
 
