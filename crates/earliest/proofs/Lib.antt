@@ -1,0 +1,9 @@
+pub mod Rule
+pub mod Search
+pub mod Values
+pub mod Earliest
+pub mod Booking
+pub mod Never8
+pub mod Calls
+pub mod Lent
+pub mod Needed

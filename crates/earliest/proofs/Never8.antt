@@ -1,0 +1,88 @@
+-- No call of the priority manager answers 8: on a record that keeps its rules both delay lookups find a segment.
+use Prim.Native.Nat.{ℕ}
+use mathlib.Core.Bool.{true}
+use mathlib.Core.Path.{_≡_, refl}
+use mathlib.Core.List.{List}
+use native.Mathlib.Omega.{arith}
+use lib.Dec.{leb, eqb}
+use lib.ListN.{length}
+use Rattle.units.specs.declared.Date.{Date}
+use Rattle.units.specs.declared.Interval.{Interval}
+use Rattle.units.specs.declared.TxData.{TxData}
+use Rattle.units.specs.declared.Bundle.{Bundle}
+use Rattle.units.specs.declared.Offer.{Offer}
+use Rattle.units.specs.Limits.{listedMax, bundleOk}
+use Rattle.units.specs.Answer.{offers}
+use Rattle.units.proofs.Logic.{unless-keeps}
+use Rattle.units.proofs.Loads.{asked-load, load}
+use Rattle.segmentation.specs.declared.RateSegment.{RateSegment}
+use Rattle.segmentation.specs.declared.DelaySegment.{DelaySegment}
+use Rattle.contact.specs.declared.Opened.{Opened as ContactOpened}
+use Rattle.contact.specs.Open.{openContact}
+use Rattle.contact.proofs.Refusals.{opening-keeps}
+use Rattle.bookings.specs.declared.Run.{Run}
+use Rattle.bookings.specs.declared.Run.the-variants.{Idle, Going, Sent}
+use Rattle.bookings.specs.declared.Set.{Set}
+use Rattle.bookings.specs.Listed.{listed}
+use Rattle.bookings.specs.Cut.{setOf, setBookings}
+use Rattle.pseg.specs.declared.PrioritySeg.{PrioritySeg}
+use Rattle.pseg.specs.declared.Opened.{Opened}
+use Rattle.pseg.specs.declared.Booked.{Booked}
+use Rattle.pseg.specs.declared.Listing.{Listing}
+use Rattle.pseg.specs.Record.{recordOk}
+use Rattle.pseg.specs.Open.{openedOf, openOf}
+use Rattle.pseg.specs.DryRun.{runOf, answerTo, dryRunOf}
+use Rattle.pseg.specs.Book.{bookedAt, bookOf}
+use Rattle.pseg.specs.List.{listOf}
+use Rattle.earliest.proofs.Earliest.{sent}
+
+abbrev Not8 : ℕ → Type 0
+Not8 n = n ≡ 8 → ⊥
+
+module _ (r : PrioritySeg) (at : Date) (b : Bundle) where
+  answer-never-8 : recordOk r ≡ true → bundleOk at b ≡ true → (x : Run) → runOf r (at .0) b ≡ x → Not8 (answerTo r x .number)
+  answer-never-8 ok fits (Sent send) e h = omega (arith, h, sent r at b ok (load b (asked-load at b fits) .some) send e .0)
+  answer-never-8 ok fits (Going send) e h = omega arith
+  answer-never-8 ok fits Idle e h = omega arith
+
+  pub dry-never-8 : Not8 (dryRunOf r at b .number)
+  unfolding dryRunOf
+  dry-never-8 =
+      unless-keeps (λ (o : Offer). Not8 (o .number)) (recordOk r) _ _
+      (λ f h. omega arith)
+      (λ ok. unless-keeps (λ (o : Offer). Not8 (o .number)) (bundleOk at b) _ _
+      (λ f h. omega arith)
+      (λ fits. answer-never-8 ok fits (runOf r (at .0) b) refl))
+
+  set-never-8 : (s e w : ℕ) → Not8 (setBookings (r .bookings) s e w .number)
+  unfolding setBookings
+  set-never-8 s e w = unless-keeps (λ (x : Set). Not8 (x .number)) (leb (length (setOf s e w (listed (r .bookings)))) listedMax) _ _ (λ f h. omega arith) (λ f h. omega arith)
+
+  booked-never-8 : (x : Run) (p : ℕ) → Not8 (bookedAt r x p .number)
+  booked-never-8 (Sent send) p = set-never-8 _ _ _
+  booked-never-8 (Going send) p = λ h. omega arith
+  booked-never-8 Idle p = λ h. omega arith
+
+  pub book-never-8 : (d : TxData) → Not8 (bookOf r at b d .number)
+  unfolding bookOf
+  book-never-8 d =
+      unless-keeps (λ (x : Booked). Not8 (x .number)) (recordOk r) _ _
+      (λ f h. omega arith)
+      (λ ok. unless-keeps (λ (x : Booked). Not8 (x .number)) (bundleOk at b) _ _
+      (λ f h. omega arith)
+      (λ fits. unless-keeps (λ (x : Booked). Not8 (x .number)) (offers (dryRunOf r at b) d) _ _
+      (λ f h. omega arith)
+      (λ same. booked-never-8 (runOf r (at .0) b) (b .priority .0))))
+
+pub list-never-8 : (r : PrioritySeg) → Not8 (listOf r .number)
+unfolding listOf
+list-never-8 r = unless-keeps (λ (x : Listing). Not8 (x .number)) (recordOk r) _ _ (λ f h. omega arith) (λ f h. omega arith)
+
+opened-never-8 : (w : Interval) (o : ContactOpened) → Not8 (o .number) → Not8 (openedOf w o .number)
+opened-never-8 w o n = unless-keeps (λ (x : Opened). Not8 (x .number)) (eqb (o .number) 0) _ _ (λ f. n) (λ f h. omega arith)
+
+pub open-never-8 : (w : Interval) (rates : List RateSegment) (m : ℕ) (delays : List DelaySegment) (k : ℕ) → Not8 (openOf w rates m delays k .number)
+unfolding openOf
+open-never-8 w rates m delays k =
+    opened-never-8 w (openContact w rates m delays k)
+    (opening-keeps w rates m delays k (λ (o : ContactOpened). Not8 (o .number)) (λ h. omega arith) (λ h. omega arith) (λ h. omega arith) (λ h. omega arith) (λ p h. omega arith))
