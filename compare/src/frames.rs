@@ -5,6 +5,8 @@ use crate::refusal::{DONE, Refusal};
 
 /// A longer line is malformed whatever it holds.
 pub const MAX_DIGITS: usize = 2048;
+/// The longest answer: a list of as many segments as its count can say.
+const MAX_ANSWER_BYTES: usize = 2 + u8::MAX as usize * 3 * 8;
 
 pub const BUDGETS: usize = 8;
 pub const COEFFICIENTS: usize = 4;
@@ -142,7 +144,7 @@ pub fn decode(line: &[u8]) -> Option<Frame> {
 }
 
 fn digits_to_bytes<'a>(line: &[u8], place: &'a mut [u8]) -> Option<&'a [u8]> {
-    if line.len() > MAX_DIGITS || !line.len().is_multiple_of(2) {
+    if line.len() > 2 * place.len() || !line.len().is_multiple_of(2) {
         return None;
     }
     let mut seen = 0;
@@ -262,6 +264,35 @@ fn read_queue(reader: &mut Reader) -> Option<QueueOpening> {
         delay: reader.number()?,
         budgets: reader.numbers()?,
     })
+}
+
+// ---------------------------------------------------------------------------
+// Reading answers
+
+/// The dates of a dry run's answer, `None` for any other line.
+pub fn decode_offer(line: &[u8]) -> Option<Dates> {
+    decode_done(line, |reader| Some(Dates(reader.numbers()?)))
+}
+
+/// The segments of an answer to frame 12, `None` for any other line.
+pub fn decode_list(line: &[u8]) -> Option<Vec<Span>> {
+    decode_done(line, |reader| {
+        let count = reader.byte()?;
+        reader.spans(count)
+    })
+}
+
+/// An answer's zero and, to the line's end, what follows it.
+fn decode_done<T>(line: &[u8], read: impl FnOnce(&mut Reader) -> Option<T>) -> Option<T> {
+    let mut place = [0; MAX_ANSWER_BYTES];
+    let mut reader = Reader {
+        rest: digits_to_bytes(line, &mut place)?,
+    };
+    if reader.byte()? != DONE {
+        return None;
+    }
+    let content = read(&mut reader)?;
+    reader.rest.is_empty().then_some(content)
 }
 
 // ---------------------------------------------------------------------------

@@ -4,13 +4,16 @@
 //!
 //! Data goes one way: line, frame ([`frames`]), record ([`state`]), the
 //! original's calls ([`calls`]), answer, line. Above that stand the dialogues
-//! that are compared ([`generate`]) and the comparison itself ([`drive`]).
+//! that are compared ([`generate`]) and the comparison itself ([`drive`]), and
+//! document 02's R-8, which is held against any program's answers without the
+//! original's ([`earliest`]).
 
 /// The original, built unchanged by `build.rs`.
 pub extern crate asabr;
 
 pub mod calls;
 pub mod drive;
+pub mod earliest;
 pub mod frames;
 pub mod free;
 pub mod generate;
@@ -24,5 +27,6 @@ pub mod segmented;
 pub mod serve;
 pub mod state;
 pub mod stated;
+pub mod terminal;
 
 pub use state::Oracle;

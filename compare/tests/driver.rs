@@ -1,11 +1,12 @@
 //! The program `compare`, run on the oracle and on programs that are wrong.
 
-use std::os::unix::fs::PermissionsExt;
-use std::path::{Path, PathBuf};
-use std::process::{Command, Output};
-use std::{env, fs};
+mod programs;
 
-const ORACLE: &str = env!("CARGO_BIN_EXE_oracle");
+use std::fs;
+use std::path::Path;
+use std::process::{Command, Output};
+
+use programs::{ORACLE, text, wrong_program};
 
 fn compare(program: &Path, more: &[&str]) -> Output {
     Command::new(env!("CARGO_BIN_EXE_compare"))
@@ -17,20 +18,6 @@ fn compare(program: &Path, more: &[&str]) -> Output {
         .unwrap()
 }
 
-fn text(output: &Output) -> String {
-    String::from_utf8(output.stdout.clone()).unwrap()
-}
-
-/// A program that changes what the oracle reads or writes.
-fn wrong_program(name: &str, script: &str) -> PathBuf {
-    let path = Path::new(env!("CARGO_TARGET_TMPDIR")).join(name);
-    let oracle = env::current_dir().unwrap().join(ORACLE);
-    let script = script.replace("ORACLE", oracle.to_str().unwrap());
-    fs::write(&path, format!("#!/bin/sh\n{script}\n")).unwrap();
-    fs::set_permissions(&path, fs::Permissions::from_mode(0o755)).unwrap();
-    path
-}
-
 #[test]
 fn the_oracle_does_not_differ_from_itself() {
     for kind in [
@@ -40,6 +27,7 @@ fn the_oracle_does_not_differ_from_itself() {
         "queue",
         "malformed",
         "room",
+        "filled",
         "all",
     ] {
         let output = compare(Path::new(ORACLE), &["--kind", kind, "--seed", "7"]);

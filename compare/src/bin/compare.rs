@@ -6,6 +6,7 @@ use std::process::ExitCode;
 use oracle::drive::differ::Difference;
 use oracle::drive::{self, Found, Outcome, Settings};
 use oracle::generate::{Kind, list};
+use oracle::terminal::{number, shown};
 
 const HELP: &str = "\
 compare: feeds a program and the original contact managers the same frames of
@@ -22,8 +23,10 @@ by line.
   --frames N       compare at least so many (1,000,000); the last dialogue is
                    finished, so the figure is a little larger
   --seed S         the same seed gives the same frames (1)
-  --kind KIND      free, priority, poly, queue, malformed, room or all (all);
-                   room is free with frame 15 after every other frame
+  --kind KIND      free, priority, poly, queue, malformed, room, filled or all
+                   (all); room is free with frame 15 after every other frame,
+                   filled is priority without a booking of zero length; all
+                   contains neither
   --dump FILE      also write the frames to FILE and the expected answers to
                    FILE.answers; all frames are then one run of the program.
                    Without --program they are only written
@@ -115,13 +118,6 @@ fn read(arguments: &[String]) -> Result<Command, String> {
     }
 }
 
-fn number<T: std::str::FromStr>(name: &str, value: &str) -> Result<T, String> {
-    let digits: String = value.chars().filter(|digit| *digit != '_').collect();
-    digits
-        .parse()
-        .map_err(|_| format!("{name} {value} is no number"))
-}
-
 fn kind(value: &str) -> Result<Kind, String> {
     Kind::named(value).ok_or(format!("--kind {value} is not known"))
 }
@@ -189,13 +185,4 @@ fn report_difference(difference: &Difference) {
     };
     println!("expected {}", side(&difference.expected));
     println!("answered {}", side(&difference.got));
-}
-
-/// A line as it can be printed: without its line end, other bytes escaped.
-fn shown(line: &[u8]) -> String {
-    let text = line.strip_suffix(b"\n").unwrap_or(line);
-    match text.is_empty() {
-        true => "(an empty line)".into(),
-        false => text.escape_ascii().to_string(),
-    }
 }

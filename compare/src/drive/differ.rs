@@ -14,6 +14,11 @@ pub fn lines(text: &[u8]) -> impl Iterator<Item = &[u8]> {
     text.split_inclusive(|byte| *byte == b'\n')
 }
 
+/// A line without its line end.
+pub fn bare(line: &[u8]) -> &[u8] {
+    line.strip_suffix(b"\n").unwrap_or(line)
+}
+
 pub fn first(expected: &[u8], got: &[u8]) -> Option<Difference> {
     // Nearly always all is equal, and one comparison says so.
     if expected == got {

@@ -61,7 +61,7 @@ pub fn compare(settings: &Settings) -> io::Result<Outcome> {
         found: None,
         bad_end: None,
     };
-    let mut progress = Progress::new(settings.frames);
+    let mut progress = Progress::new("frames", settings.frames);
     for run in generate_beside(settings) {
         if let Some(path) = &settings.dump {
             dump(path, &run)?;
@@ -149,28 +149,32 @@ fn shortest(
     }
 }
 
-struct Progress {
+/// Says now and then how far it is, on standard error.
+pub struct Progress {
+    what: &'static str,
     all: usize,
     started: Instant,
     last: Instant,
 }
 
 impl Progress {
-    fn new(all: usize) -> Self {
+    pub fn new(what: &'static str, all: usize) -> Self {
         let now = Instant::now();
         Progress {
+            what,
             all,
             started: now,
             last: now,
         }
     }
 
-    fn report(&mut self, compared: usize) {
+    pub fn report(&mut self, done: usize) {
         if self.last.elapsed() < BETWEEN_REPORTS {
             return;
         }
         self.last = Instant::now();
-        let speed = compared as f64 / self.started.elapsed().as_secs_f64();
-        eprintln!("{compared} of {} frames, {speed:.0} a second", self.all);
+        let speed = done as f64 / self.started.elapsed().as_secs_f64();
+        let Progress { what, all, .. } = self;
+        eprintln!("{done} of {all} {what}, {speed:.0} a second");
     }
 }

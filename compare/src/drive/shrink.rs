@@ -17,7 +17,7 @@ pub type Lines = Vec<Vec<u8>>;
 pub fn until(frames: &[u8], place: usize) -> Lines {
     differ::lines(frames)
         .take(place + 1)
-        .map(|line| line.strip_suffix(b"\n").unwrap_or(line).to_vec())
+        .map(|line| differ::bare(line).to_vec())
         .collect()
 }
 

@@ -16,6 +16,9 @@ pub struct Tiny {
     depth: usize,
     /// For queues: what is enqueued and dequeued by hand.
     loads: Vec<Load>,
+    /// For bookings by priority: a send of zero length is not booked, so that
+    /// no list gets an empty segment.
+    filled: bool,
 }
 
 pub fn contacts(manager: Manager) -> Vec<Tiny> {
@@ -25,6 +28,16 @@ pub fn contacts(manager: Manager) -> Vec<Tiny> {
         Manager::Poly => polys(),
         Manager::Queue => queues(),
     }
+}
+
+/// Contacts of the priority manager on which no send of zero length is booked.
+pub fn filled() -> Vec<Tiny> {
+    let contacts = rated(Frame::OpenPriority, &[0, 1, 2], &FILLED_SHAPES);
+    let filled = |contact| Tiny {
+        filled: true,
+        ..contact
+    };
+    contacts.into_iter().map(filled).collect()
 }
 
 // ---------------------------------------------------------------------------
@@ -37,16 +50,15 @@ impl Tiny {
     }
 
     /// Reopens, books the path, lists, and asks everything; then goes on with
-    /// each offer. Offers of the same dates and load lead to the same record.
+    /// each offer that leads to another record.
     fn follow(&self, sink: &mut Sink, path: &mut Vec<(Request, Dates)>, depth: usize) {
         self.walk(sink, path);
         let mut offers: Vec<(Request, Dates)> = Vec::new();
         for request in &self.asked {
             if let Ok(Content::Offer(dates)) = sink.ask(&Frame::DryRun(*request)) {
-                let known =
-                    |(other, same): &(Request, Dates)| *same == dates && other.load == request.load;
-                if !offers.iter().any(known) {
-                    offers.push((*request, dates));
+                let offer = (*request, dates);
+                if !offers.iter().any(|known| self.leads_alike(known, &offer)) {
+                    offers.push(offer);
                 }
             }
         }
@@ -54,10 +66,22 @@ impl Tiny {
             return;
         }
         for offer in offers {
+            if self.filled && has_no_length(&offer) {
+                continue;
+            }
             path.push(offer);
             self.follow(sink, path, depth - 1);
             path.pop();
         }
+    }
+
+    /// Offers of the same dates and load lead to the same record. Bookings by
+    /// priority do not go by the size.
+    fn leads_alike(&self, one: &(Request, Dates), other: &(Request, Dates)) -> bool {
+        let (one_load, other_load) = (one.0.load, other.0.load);
+        one.1 == other.1
+            && one_load.priority == other_load.priority
+            && (self.filled || one_load.size == other_load.size)
     }
 
     /// Asks frame 15 after the opening and after each booking: they alone
@@ -89,9 +113,13 @@ impl Tiny {
     }
 }
 
+fn has_no_length((_, Dates([start, end, ..])): &(Request, Dates)) -> bool {
+    start == end
+}
+
 /// Every time from one before the window to two after it, with every size up
 /// to `most` and every priority given.
-fn requests(window: Window, most: i64, priorities: &[u8]) -> Vec<Request> {
+pub fn requests(window: Window, most: i64, priorities: &[u8]) -> Vec<Request> {
     let mut requests = Vec::new();
     for time in window.start - 1..=window.end + 2 {
         for size in 1..=most {
@@ -176,6 +204,14 @@ const PRIORITY_SHAPES: [Shape; 4] = [
     (3, &[0, 1, 3], 1),
     (4, &[0, 2], 1),
 ];
+/// Three priorities, but no booking of zero length to follow.
+const FILLED_SHAPES: [Shape; 5] = [
+    (1, &[0, 1, 2, 3], 3),
+    (2, &[0, 1, 2, 3], 1),
+    (2, &[0, 1, 3], 2),
+    (3, &[0, 1, 3], 1),
+    (4, &[0, 1], 1),
+];
 
 fn rated(open: fn(RatedOpening) -> Frame, priorities: &[u8], shapes: &[Shape]) -> Vec<Tiny> {
     let mut contacts = Vec::new();
@@ -196,6 +232,7 @@ fn rated(open: fn(RatedOpening) -> Frame, priorities: &[u8], shapes: &[Shape]) -
                 asked: requests(window, total + 1, priorities),
                 depth,
                 loads: Vec::new(),
+                filled: false,
             });
         }
     }
@@ -221,6 +258,7 @@ fn polys() -> Vec<Tiny> {
                     asked: requests(window, 6, &[0]),
                     depth: 1,
                     loads: Vec::new(),
+                    filled: false,
                 });
             }
         }
@@ -291,5 +329,6 @@ fn tiny_queue(flags: u8, classes: u8, rate: i64) -> Tiny {
         asked: requests(window, 2 * rate + 1, &priorities),
         depth: 1,
         loads: loads.concat(),
+        filled: false,
     }
 }

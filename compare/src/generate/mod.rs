@@ -3,6 +3,7 @@
 
 pub mod dialogues;
 pub mod exhaustive;
+pub mod filled;
 pub mod list;
 pub mod malformed;
 pub mod openings;
@@ -25,18 +26,22 @@ pub enum Kind {
     Malformed,
     /// The dialogues of `Free`, with frame 15 after every other frame.
     Room,
-    /// Everything but `Room`: the others ask frame 15 now and then.
+    /// A priority record on which no send of zero length is booked.
+    Filled,
+    /// Everything but `Room` and `Filled`: the others ask frame 15 now and
+    /// then, and book sends of any length.
     All,
 }
 
 impl Kind {
-    pub const NAMES: [(&str, Kind); 7] = [
+    pub const NAMES: [(&str, Kind); 8] = [
         ("free", Kind::Free),
         ("priority", Kind::Priority),
         ("poly", Kind::Poly),
         ("queue", Kind::Queue),
         ("malformed", Kind::Malformed),
         ("room", Kind::Room),
+        ("filled", Kind::Filled),
         ("all", Kind::All),
     ];
 
@@ -46,20 +51,31 @@ impl Kind {
     }
 }
 
-/// A source of dialogues of one manager. Tiny contacts take every second turn
+/// What a source's dialogues are about.
+#[derive(Clone, Copy)]
+enum Theme {
+    Manager(Manager),
+    Filled,
+}
+
+/// A source of dialogues of one theme. Tiny contacts take every second turn
 /// until all have been asked.
 struct Source {
-    manager: Manager,
+    theme: Theme,
     tiny: std::vec::IntoIter<Tiny>,
     in_tiny: usize,
     in_random: usize,
 }
 
 impl Source {
-    fn new(manager: Manager) -> Self {
+    fn new(theme: Theme) -> Self {
+        let tiny = match theme {
+            Theme::Manager(manager) => exhaustive::contacts(manager),
+            Theme::Filled => exhaustive::filled(),
+        };
         Source {
-            manager,
-            tiny: exhaustive::contacts(manager).into_iter(),
+            theme,
+            tiny: tiny.into_iter(),
             in_tiny: 0,
             in_random: 0,
         }
@@ -77,7 +93,10 @@ impl Source {
             contact.ask_all(sink);
             self.in_tiny += sink.count() - before;
         } else {
-            dialogues::dialogue(rng, self.manager, sink);
+            match self.theme {
+                Theme::Manager(manager) => dialogues::dialogue(rng, manager, sink),
+                Theme::Filled => filled::dialogue(rng, sink),
+            }
             self.in_random += sink.count() - before;
         }
     }
@@ -98,25 +117,24 @@ const MALFORMED_SHARE: usize = 6;
 
 impl Stream {
     pub fn new(kind: Kind, seed: u64) -> Self {
-        let managers: &[Manager] = match kind {
-            Kind::Free | Kind::Room => &[Manager::Free],
-            Kind::Priority => &[Manager::Priority],
-            Kind::Poly => &[Manager::Poly],
-            Kind::Queue => &[Manager::Queue],
-            Kind::Malformed => &[],
-            Kind::All => &[
-                Manager::Free,
-                Manager::Priority,
-                Manager::Poly,
-                Manager::Queue,
-            ],
+        let managers = [
+            Manager::Free,
+            Manager::Priority,
+            Manager::Poly,
+            Manager::Queue,
+        ];
+        let themes = match kind {
+            Kind::Free | Kind::Room => vec![Theme::Manager(Manager::Free)],
+            Kind::Priority => vec![Theme::Manager(Manager::Priority)],
+            Kind::Poly => vec![Theme::Manager(Manager::Poly)],
+            Kind::Queue => vec![Theme::Manager(Manager::Queue)],
+            Kind::Filled => vec![Theme::Filled],
+            Kind::Malformed => vec![],
+            Kind::All => managers.map(Theme::Manager).to_vec(),
         };
         Stream {
             rng: Rng::new(seed),
-            sources: managers
-                .iter()
-                .map(|manager| Source::new(*manager))
-                .collect(),
+            sources: themes.into_iter().map(Source::new).collect(),
             malformed_every: match kind {
                 Kind::Malformed => Some(1),
                 Kind::All => Some(MALFORMED_SHARE),
@@ -157,7 +175,7 @@ impl Stream {
             .sources
             .iter_mut()
             .min_by_key(|source| source.frames())
-            .expect("a kind without managers is malformed only");
+            .expect("a kind without themes is malformed only");
         behind.dialogue(&mut self.rng, sink);
     }
 }

@@ -42,6 +42,12 @@ fn window(rng: &mut Rng, scale: Scale) -> Window {
             _ => rng.any_scale(MAX_LENGTH),
         },
     };
+    placed(rng, length)
+}
+
+/// A window of this length: at the first date, soon after it, up to the last
+/// date, or anywhere.
+pub fn placed(rng: &mut Rng, length: i64) -> Window {
     let latest = MAX_DATE - length;
     let start = match rng.below(8) {
         0..3 => 0,
@@ -57,7 +63,7 @@ fn window(rng: &mut Rng, scale: Scale) -> Window {
 }
 
 /// Cuts a window into 1 to `most` segments and gives each a value.
-fn tiled(
+pub fn tiled(
     rng: &mut Rng,
     window: Window,
     most: usize,
@@ -127,7 +133,13 @@ fn fill_total(rng: &mut Rng, spans: &mut [Span], room: i64, scale: Scale) {
     span.value += room / (span.end - span.start);
 }
 
-fn delay(rng: &mut Rng) -> i64 {
+/// The exact capacity of [start, end).
+pub fn capacity(rates: &[Span], start: i64, end: i64) -> i64 {
+    let of_part = |rate: &Span| rate.value * (rate.end.min(end) - rate.start.max(start)).max(0);
+    rates.iter().map(of_part).sum()
+}
+
+pub fn delay(rng: &mut Rng) -> i64 {
     match rng.below(8) {
         0..2 => 0,
         2..6 => rng.between(1, 20),
