@@ -23,12 +23,12 @@ use Rattle.bookings.specs.Listed.{levelAt, listed}
 use Rattle.pseg.specs.declared.PrioritySeg.{PrioritySeg}
 use Rattle.pseg.specs.Record.{recordOk}
 use Rattle.pseg.specs.DryRun.{runOf, answerTo, dryRunOf}
-use Rattle.pseg.proofs.Facts.{Facts, facts, found-free, found-ends}
+use Rattle.pseg.proofs.Facts.{Facts, facts, found-free}
 use Rattle.pseg.proofs.Calls.{dry-fits}
 use Rattle.earliest.specs.Start.{Start, Least}
 use Rattle.earliest.specs.Earliest.{endFrom, StartIn, NoEmpty, Earliest}
 use Rattle.earliest.specs.Rest.{Rest}
-use Rattle.earliest.proofs.Rule.{end-orderly, one-end}
+use Rattle.earliest.proofs.Rule.{Orderly, end-orderly, one-end}
 use Rattle.earliest.proofs.Search.{Tells, search-tells}
 use Rattle.earliest.proofs.Values.{level-below, below-level, start-as, tells-as}
 
@@ -39,7 +39,7 @@ least-unique P s u h k = omega (arith, h .least u (k .is), k .least s (h .is))
 module _ (r : PrioritySeg) (at : Date) (b : Bundle) where
   module _ (o : Offer) where
     -- an offer at the least start
-    offer-earliest : o .number ≡ 0 → Least (StartIn r at b) (o .dates .send .start .0) → Earliest r at b o
+    pub offer-earliest : o .number ≡ 0 → Least (StartIn r at b) (o .dates .send .start .0) → Earliest r at b o
     offer-earliest zero q =
         record {
           offer = λ s. (λ x. rw (x .1) at q, λ x. (zero, least-unique (StartIn r at b) _ s q x));
@@ -91,13 +91,18 @@ module _ (r : PrioritySeg) (at : Date) (b : Bundle) where
         (h .either)
 
   module _ (ok : recordOk r ≡ true) (some : 0 < b .size .0) where
+    rule : Orderly (endFrom r b) (r .contact .window .end .0)
+    rule =
+        let c = facts r ok .contact in
+        end-orderly (ratesOf (r .contact)) (b .size .0) _ _ some (c .some) (c .close)
+
     -- what a run that is found is answered with
     module _ (send : Interval) (e : runOf r (at .0) b ≡ Sent send) where
       pub sent : (answerTo r (Sent send) .number ≡ 0) × (answerTo r (Sent send) .dates .send ≡ send)
       sent =
           let k = facts r ok in
-          let ends = found-ends r k (at .0) b send e some in
-          contact-answers (r .contact) (k .contact) send (ends .forth) (ends .by)
+          let end = found-free r k (at .0) b send e .ends in
+          contact-answers (r .contact) (k .contact) send (rule .forth _ _ end) (rule .by _ _ end)
 
       sent-rest : Rest r b (answerTo r (Sent send))
       sent-rest =
@@ -125,7 +130,6 @@ module _ (r : PrioritySeg) (at : Date) (b : Bundle) where
           let lo = r .contact .window .start .0 in
           let hi = r .contact .window .end .0 in
           let level = levelAt (listed (r .bookings)) in
-          let rule = end-orderly (ratesOf (r .contact)) (b .size .0) lo hi some (k .contact .some) (k .contact .close) in
           tells-as (Start (endFrom r b) (λ (u : ℕ). level u ≤ p) lo hi (at .0)) (StartIn r at b)
           (λ s. start-as (endFrom r b) _ _ lo hi (at .0) s (λ u. level-below p (level u)))
           (λ s. start-as (endFrom r b) _ _ lo hi (at .0) s (λ u. below-level p (level u)))

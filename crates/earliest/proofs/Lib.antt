@@ -7,3 +7,4 @@ pub mod Never8
 pub mod Calls
 pub mod Lent
 pub mod Needed
+pub mod Again

@@ -11,8 +11,9 @@ use Rattle.segmentation.specs.declared.End.the-variants.{At, None}
 use Rattle.segmentation.specs.End.{closeOf, endOf}
 use Rattle.segmentation.proofs.EndLaws.{end-ends, end-monotone-start, end-none-start}
 
--- an end is by the date hi; where a tick has an end, each earlier one has an end that is no later
+-- an end is not before its tick and by the date hi; where a tick has an end, each earlier one has an end that is no later
 pub record Orderly (E : ℕ → End) (hi : ℕ) : Type 0 where
+  pub forth : (s : ℕ) (e : Date) → E s ≡ At e → s ≤ e .0
   pub by : (s : ℕ) (e : Date) → E s ≡ At e → e .0 ≤ hi
   pub sooner : (s u : ℕ) (e : Date) → s ≤ u → E u ≡ At e → (d : Date) × ((E s ≡ At d) × (d .0 ≤ e .0))
 
@@ -35,6 +36,7 @@ close-any (x ∷ l) lo hi s h e = e
 pub end-orderly : (l : List VolumeSegment) (v lo hi : ℕ) → 0 < v → lo < hi → closeOf lo l ≡ hi → Orderly (λ (s : ℕ). endOf l s v hi) hi
 end-orderly l v lo hi pos some close =
     record {
+      forth = λ s e z. end-ends l s v pos hi e z .forth;
       by = λ s e z. end-ends l s v pos hi e z .by;
       sooner = λ s u e le z.
           ⊎-elim
