@@ -27,6 +27,39 @@ use crate::segments::{BookingSegment, DelaySegment, Interval, RateSegment};
 /// assert_eq!(contact.dry_run(0, urgent)?.send, Interval { start: 0, end: 3 });
 /// # Ok::<(), howrekano::Refusal>(())
 /// ```
+///
+/// # The earliest place
+///
+/// While no listed stretch is empty, an offer starts at the first tick there
+/// is: the least one, not before the asked time and inside the window, from
+/// which the bundle has an end by the window's end and is booked below its
+/// priority at every instant up to that end, the start itself included. A
+/// [`Refusal::NO_OFFER`] says that there is none. This is proved for every record
+/// and every bundle, of the calls of this type too; and an offer then stands
+/// when it is asked for again, at any time up to its start.
+///
+/// A bundle that is smaller than what one tick carries is sent in no time, and
+/// booking it inside a stretch lists an empty one. Then a start can be hidden,
+/// or a tick offered that is booked:
+///
+/// ```
+/// # use howrekano::{Bundle, DelaySegment, Interval, PrioritySeg, RateSegment, Refusal};
+/// # let window = Interval { start: 0, end: 2 };
+/// let rates = [RateSegment { start: 0, end: 2, rate: 2 }];
+/// # let delays = [DelaySegment { start: 0, end: 2, delay: 0 }];
+/// let mut contact = PrioritySeg::open(window, &rates, &delays)?;
+/// let is_first_start_told = |c: &PrioritySeg| c.list().iter().all(|s| s.start < s.end);
+/// assert!(is_first_start_told(&contact));
+/// let all = Bundle { size: 4, priority: 0 };
+/// assert_eq!(contact.dry_run(0, all)?.send, Interval { start: 0, end: 2 });
+///
+/// let small = Bundle { size: 1, priority: 0 };
+/// let offer = contact.dry_run(1, small)?;                 // sent from 1 to 1
+/// contact.book(1, small, offer)?;
+/// assert!(!is_first_start_told(&contact));                // [1,1) is listed
+/// assert_eq!(contact.dry_run(0, all), Err(Refusal::NO_OFFER)); // though both ticks are free
+/// # Ok::<(), howrekano::Refusal>(())
+/// ```
 pub type PrioritySeg = Manager<record::PrioritySeg>;
 
 impl PrioritySeg {
