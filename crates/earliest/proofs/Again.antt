@@ -13,7 +13,8 @@ use Rattle.pseg.specs.Record.{recordOk}
 use Rattle.pseg.proofs.PrioritySeg.dry_run.Reads as dry-run-reads
 use Rattle.earliest.specs.Start.{Least}
 use Rattle.earliest.specs.Earliest.{StartIn, NoEmpty}
-use Rattle.earliest.proofs.Earliest.{offer-earliest, whole-unique}
+use Rattle.earliest.proofs.Unique.{whole-unique}
+use Rattle.earliest.proofs.Earliest.{offer-earliest}
 use Rattle.earliest.proofs.Calls.{earliest}
 
 -- a start stays one for every asked time that it is not before

@@ -29,7 +29,8 @@ use Rattle.earliest.specs.Start.{Least}
 use Rattle.earliest.specs.Earliest.{StartIn, NoEmpty, Earliest}
 use Rattle.earliest.specs.Rest.{Rest}
 use Rattle.earliest.proofs.Search.{Tells}
-use Rattle.earliest.proofs.Earliest.{run-tells, dry-earliest, whole-unique}
+use Rattle.earliest.proofs.Unique.{whole-unique}
+use Rattle.earliest.proofs.Earliest.{run-tells, dry-earliest}
 
 -- a refusal that is not 2 is 9, and the dates are not the answer's
 nine : (p q : Bool) → p ≡ false → (pick {A = ℕ} p 2 (pick q 0 9) ≡ 0 → ⊥) → (q ≡ false) × (pick {A = ℕ} p 2 (pick q 0 9) ≡ 9)

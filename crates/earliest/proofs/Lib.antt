@@ -1,10 +1,12 @@
 pub mod Rule
 pub mod Search
 pub mod Values
+pub mod Unique
+pub mod Found
 pub mod Earliest
 pub mod Booking
 pub mod Never8
 pub mod Calls
+pub mod Again
 pub mod Lent
 pub mod Needed
-pub mod Again

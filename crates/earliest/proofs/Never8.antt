@@ -34,14 +34,14 @@ use Rattle.pseg.specs.Open.{openedOf, openOf}
 use Rattle.pseg.specs.DryRun.{runOf, answerTo, dryRunOf}
 use Rattle.pseg.specs.Book.{bookedAt, bookOf}
 use Rattle.pseg.specs.List.{listOf}
-use Rattle.earliest.proofs.Earliest.{sent}
+use Rattle.earliest.proofs.Found.{sent}
 
 abbrev Not8 : ℕ → Type 0
 Not8 n = n ≡ 8 → ⊥
 
 module _ (r : PrioritySeg) (at : Date) (b : Bundle) where
   answer-never-8 : recordOk r ≡ true → bundleOk at b ≡ true → (x : Run) → runOf r (at .0) b ≡ x → Not8 (answerTo r x .number)
-  answer-never-8 ok fits (Sent send) e h = omega (arith, h, sent r at b ok (load b (asked-load at b fits) .some) send e .0)
+  answer-never-8 ok fits (Sent send) e h = omega (arith, h, sent r b ok (load b (asked-load at b fits) .some) at send e .0)
   answer-never-8 ok fits (Going send) e h = omega arith
   answer-never-8 ok fits Idle e h = omega arith
 
