@@ -9,7 +9,8 @@ use asabr::contact_manager::segmentation::Segment;
 use asabr::contact_manager::segmentation::seg::SegmentationManager;
 use asabr::types::NodeID;
 use oracle::Oracle;
-use oracle::frames::{self, Answer, Content, Dates, Frame, RatedOpening, Span};
+use oracle::frames::{self, Answer, Content, Dates, Frame, RatedOpening};
+use oracle::generate::openings::capacity;
 use oracle::generate::sink::Run;
 use oracle::generate::{Kind, Stream};
 use oracle::refusal::Refusal;
@@ -138,11 +139,6 @@ const WRONG: [(&str, Keep); 7] = [
         _ => keep_true(sum, event),
     }),
 ];
-
-fn capacity(rates: &[Span], start: i64, end: i64) -> i64 {
-    let of_part = |rate: &Span| rate.value * (rate.end.min(end) - rate.start.max(start)).max(0);
-    rates.iter().map(of_part).sum()
-}
 
 fn listed(oracle: &mut Oracle) -> i64 {
     match oracle.answer_frame(&Frame::List) {
