@@ -40,8 +40,9 @@ uint8_t hk_priority_book_kept(hk_interval window, const uint64_t *rates, size_t 
     size_t delay_count, uint64_t *list, size_t *count, uint64_t at, hk_bundle bundle, const uint64_t dates[4]);
 
 /* hk_priority_dry_run and its kept twin: while no listed segment is empty, the offer starts at the first tick there is, not before the asked
-   time, from which the bundle is booked below its priority up to its end, and 7 says that there is none. A bundle smaller than what a tick
-   carries can list an empty segment; then a start can be hidden, or a booked tick offered (docs/PROMISES.md, 'The earliest place') */
+   time and inside the window, from which the bundle has an end by the window's end and every instant up to it, the start itself included, is
+   booked below its priority; and 7 says that there is none. Booking a bundle smaller than what a tick carries can list an empty segment; then
+   a start can be hidden, or a booked tick offered (docs/PROMISES.md, 'The earliest place') */
 
 /* the room left in a pass: what its free list adds up to. A bundle of that size need not fit, since the room may lie in several stretches */
 hk_room hk_free_room(const hk_free *m);

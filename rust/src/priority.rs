@@ -32,15 +32,15 @@ use crate::segments::{BookingSegment, DelaySegment, Interval, RateSegment};
 ///
 /// While no listed stretch is empty, an offer starts at the first tick there
 /// is: the least one, not before the asked time and inside the window, from
-/// which the bundle has an end by the window's end and is booked below its
-/// priority at every instant up to that end, the start itself included. A
-/// [`Refusal::NO_OFFER`] says that there is none. This is proved for every record
-/// and every bundle, of the calls of this type too; and an offer then stands
-/// when it is asked for again, at any time up to its start.
+/// which the bundle has an end by the window's end, and from which every instant
+/// up to that end, the start itself included, is booked below its priority. A
+/// [`Refusal::NO_OFFER`] says that there is none. This is proved for every such
+/// record and every bundle, of the library's calls that this type makes; and the
+/// offer is the same when it is asked for again, at any time up to its start.
 ///
 /// A bundle that is smaller than what one tick carries is sent in no time, and
-/// booking it inside a stretch lists an empty one. Then a start can be hidden,
-/// or a tick offered that is booked:
+/// booking it inside a stretch lists an empty one. Then a tick can be offered
+/// that is booked, or a start be hidden, as here:
 ///
 /// ```
 /// # use howrekano::{Bundle, DelaySegment, Interval, PrioritySeg, RateSegment, Refusal};

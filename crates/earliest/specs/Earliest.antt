@@ -22,7 +22,7 @@ use Rattle.earliest.specs.Start.{Start, Least}
 abbrev pub endFrom : PrioritySeg → Bundle → ℕ → End
 endFrom r b s = endOf (ratesOf (r .contact)) s (b .size .0) (r .contact .window .end .0)
 
--- the value that is booked at a tick, -1 to 127: that of the listed segment which holds it
+-- the value that is booked at a tick, -1 to 127: that of the listed segment which holds it (-1 where none does, which is outside the window)
 abbrev pub valueAt : PrioritySeg → ℕ → ℤ
 valueAt r u = valueOf (record { 0 = levelAt (listed (r .bookings)) u })
 
