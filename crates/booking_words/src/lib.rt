@@ -4,6 +4,7 @@ pub mod set;
 use bookings::BookingSegment;
 use bookings::Level;
 use bookings::Run;
+use segmentation::Edition;
 use segmentation::End;
 use units::Date;
 use units::Interval;
@@ -54,6 +55,7 @@ fn put_at(bookings: &mut [u64; LISTED], i: usize, g: BookingSegment)
 
 // A run begins, if there is an end by the window's end.
 fn begin(
+    edition: Edition,
     rates: &[u64; SEGMENTS],
     m: usize,
     to: Date,
@@ -62,9 +64,9 @@ fn begin(
     deadline: Date,
 ) -> Run
     requires { ⌜ m ≤ segmentsMax ⌝ ∗ ⌜ 0 < size .0 ⌝ ∗ ⌜ Covers (start .0) (take m (volumesIn (now rates))) ⌝ }
-    ensures { λ r. ⌜ r ≡ beginOf (to .0) (start .0) (endOf (take m (volumesIn (now (rates .entry)))) (start .0) (size .0) (deadline .0)) ⌝ }
+    ensures { λ r. ⌜ r ≡ beginOf (to .0) (start .0) (endOf (edition .0) (take m (volumesIn (now (rates .entry)))) (start .0) (size .0) (deadline .0)) ⌝ }
 {
-    let End::At(e) = words::find_end(rates, m, start, size, deadline) else {
+    let End::At(e) = words::find_end(edition, rates, m, start, size, deadline) else {
         return Run::Idle;
     };
     bookings::reach(
@@ -78,6 +80,7 @@ fn begin(
 
 // One segment's turn in the search.
 fn turn(
+    edition: Edition,
     rates: &[u64; SEGMENTS],
     m: usize,
     asked: Date,
@@ -88,7 +91,7 @@ fn turn(
     before: Run,
 ) -> Run
     requires { ⌜ m ≤ segmentsMax ⌝ ∗ ⌜ 0 < size .0 ⌝ ∗ ⌜ Covers (g .start .0) (take m (volumesIn (now rates))) ⌝ }
-    ensures { λ r. ⌜ r ≡ turnOf (ruleOf (take m (volumesIn (now (rates .entry)))) (size .0) (deadline .0)) (asked .0) (priority .0) g before ⌝ }
+    ensures { λ r. ⌜ r ≡ turnOf (ruleOf (edition .0) (take m (volumesIn (now (rates .entry)))) (size .0) (deadline .0)) (asked .0) (priority .0) g before ⌝ }
 {
     let first = g.start;
     let last = g.end;
@@ -100,7 +103,15 @@ fn turn(
         return bookings::broken(before);
     }
     match before {
-        Run::Idle => begin(rates, m, last, units::later(first, asked), size, deadline),
+        Run::Idle => begin(
+            edition,
+            rates,
+            m,
+            last,
+            units::later(first, asked),
+            size,
+            deadline,
+        ),
         Run::Going(run) => bookings::reach(last, run),
         Run::Sent(run) => Run::Sent(run),
     }
@@ -108,6 +119,7 @@ fn turn(
 
 // dry_run_tx: the first run of segments below the priority that reaches its end.
 pub fn find_run(
+    edition: Edition,
     rates: &[u64; SEGMENTS],
     m: usize,
     window: Interval,
@@ -118,7 +130,7 @@ pub fn find_run(
     priority: Priority,
 ) -> Run
     requires { ⌜ m ≤ segmentsMax ⌝ ∗ ⌜ 0 < size .0 ⌝ ∗ ⌜ Covers (window .start .0) (take m (volumesIn (now rates))) ⌝ ∗ ⌜ n ≤ listedMax ⌝ ∗ ⌜ From (window .start .0) (take n (bookingsIn (now bookings))) ⌝ }
-    ensures { λ r. ⌜ r ≡ searchOf (ruleOf (take m (volumesIn (now (rates .entry)))) (size .0) (window .end .0)) (asked .0) (priority .0) (take n (bookingsIn (now (bookings .entry)))) Idle ⌝ }
+    ensures { λ r. ⌜ r ≡ searchOf (ruleOf (edition .0) (take m (volumesIn (now (rates .entry)))) (size .0) (window .end .0)) (asked .0) (priority .0) (take n (bookingsIn (now (bookings .entry)))) Idle ⌝ }
 {
     told(bookings);
     let deadline = window.end;
@@ -131,7 +143,7 @@ pub fn find_run(
             break now;
         }
         let g = booked_at(bookings, i);
-        match turn(rates, m, asked, size, priority, deadline, g, now) {
+        match turn(edition, rates, m, asked, size, priority, deadline, g, now) {
             Run::Sent(found) => {
                 break Run::Sent(found);
             }

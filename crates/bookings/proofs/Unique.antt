@@ -9,6 +9,7 @@ use Rattle.units.specs.declared.Volume.{Volume}
 use Rattle.units.specs.declared.Priority.{Priority}
 use Rattle.units.specs.declared.Interval.{Interval}
 use Rattle.units.proofs.Determined.{Determined}
+use Rattle.segmentation.specs.declared.Edition.{Edition}
 use Rattle.segmentation.specs.declared.VolumeSegment.{VolumeSegment}
 use Rattle.bookings.specs.declared.Level.{Level}
 use Rattle.bookings.specs.declared.BookingSegment.{BookingSegment}
@@ -50,20 +51,20 @@ reach-unique to run r q x y f g = f ∙ sym g
 pub state-unique : (going : Bool) (run : Interval) → Determined (state-reads.Post tt (going, (run, tt)))
 state-unique going run r q x y f g = f ∙ sym g
 
-pub begin-unique : (rates : List VolumeSegment) (m : ℕ) (to start : Date) (size : Volume) (deadline : Date)
-    → Determined (begin-reads.Post tt (rates, (m, (to, (start, (size, (deadline, tt)))))))
-begin-unique rates m to start size deadline r q x y f g = f ∙ sym g
+pub begin-unique : (edition : Edition) (rates : List VolumeSegment) (m : ℕ) (to start : Date) (size : Volume) (deadline : Date)
+    → Determined (begin-reads.Post tt (edition, (rates, (m, (to, (start, (size, (deadline, tt))))))))
+begin-unique edition rates m to start size deadline r q x y f g = f ∙ sym g
 
 pub broken-unique : (now : Run) → Determined (broken-reads.Post tt (now, tt))
 broken-unique now r q x y f g = f ∙ sym g
 
-pub turn-unique : (rates : List VolumeSegment) (m : ℕ) (asked : Date) (size : Volume) (priority : Priority) (deadline : Date) (g : BookingSegment) (now : Run)
-    → Determined (turn-reads.Post tt (rates, (m, (asked, (size, (priority, (deadline, (g, (now, tt)))))))))
-turn-unique rates m asked size priority deadline g now r q x y f h = f ∙ sym h
+pub turn-unique : (edition : Edition) (rates : List VolumeSegment) (m : ℕ) (asked : Date) (size : Volume) (priority : Priority) (deadline : Date) (g : BookingSegment) (now : Run)
+    → Determined (turn-reads.Post tt (edition, (rates, (m, (asked, (size, (priority, (deadline, (g, (now, tt))))))))))
+turn-unique edition rates m asked size priority deadline g now r q x y f h = f ∙ sym h
 
-pub find-run-unique : (rates : List VolumeSegment) (m : ℕ) (window : Interval) (segments : List BookingSegment) (n : ℕ) (asked : Date) (size : Volume) (priority : Priority)
-    → Determined (find-run-reads.Post tt (rates, (m, (window, (segments, (n, (asked, (size, (priority, tt)))))))))
-find-run-unique rates m window segments n asked size priority r q x y f g = f ∙ sym g
+pub find-run-unique : (edition : Edition) (rates : List VolumeSegment) (m : ℕ) (window : Interval) (segments : List BookingSegment) (n : ℕ) (asked : Date) (size : Volume) (priority : Priority)
+    → Determined (find-run-reads.Post tt (edition, (rates, (m, (window, (segments, (n, (asked, (size, (priority, tt))))))))))
+find-run-unique edition rates m window segments n asked size priority r q x y f g = f ∙ sym g
 
 pub laid-unique : (old : List BookingSegment) (n : ℕ) (send : Interval) (level : Level) → Determined (laid-reads.Post tt (old, (n, (send, (level, tt)))))
 laid-unique old n send level r q x y f g = f ∙ sym g

@@ -44,5 +44,5 @@ searchOf E t p [] r = r
 searchOf E t p (g ∷ f) r = searchOf E t p f (turnOf E t p g r)
 
 -- the end of a run is found against the window's end
-abbrev pub ruleOf : List VolumeSegment → ℕ → ℕ → ℕ → End
-ruleOf l v hi s = endOf l s v hi
+abbrev pub ruleOf : ℕ → List VolumeSegment → ℕ → ℕ → ℕ → End
+ruleOf edition l v hi s = endOf edition l s v hi

@@ -1,4 +1,5 @@
 // Lists of booked time: their test, the search for a run, the setting of a booking.
+use segmentation::Edition;
 use segmentation::End;
 use segmentation::RateSegment;
 use segmentation::VolumeSegment;
@@ -164,6 +165,7 @@ pub fn reach(to: Date, run: Interval) -> Run
 
 // A run begins, if there is an end by the window's end.
 pub fn begin(
+    edition: Edition,
     rates: [VolumeSegment; RateSegment::COUNT_MAX],
     m: usize,
     to: Date,
@@ -172,9 +174,9 @@ pub fn begin(
     deadline: Date,
 ) -> Run
     requires { ⌜ m ≤ segmentsMax ⌝ ∗ ⌜ 0 < size .0 ⌝ ∗ ⌜ Covers (start .0) (take m rates) ⌝ }
-    ensures { λ r. ⌜ r ≡ beginOf (to .0) (start .0) (endOf (take m rates) (start .0) (size .0) (deadline .0)) ⌝ }
+    ensures { λ r. ⌜ r ≡ beginOf (to .0) (start .0) (endOf (edition .0) (take m rates) (start .0) (size .0) (deadline .0)) ⌝ }
 {
-    let End::At(e) = segmentation::find_end(rates, m, start, size, deadline) else {
+    let End::At(e) = segmentation::find_end(edition, rates, m, start, size, deadline) else {
         return Run::Idle;
     };
     reach(
@@ -199,6 +201,7 @@ pub fn broken(now: Run) -> Run
 
 // One segment's turn in the search.
 pub fn turn(
+    edition: Edition,
     rates: [VolumeSegment; RateSegment::COUNT_MAX],
     m: usize,
     asked: Date,
@@ -209,7 +212,7 @@ pub fn turn(
     now: Run,
 ) -> Run
     requires { ⌜ m ≤ segmentsMax ⌝ ∗ ⌜ 0 < size .0 ⌝ ∗ ⌜ Covers (g .start .0) (take m rates) ⌝ }
-    ensures { λ r. ⌜ r ≡ turnOf (ruleOf (take m rates) (size .0) (deadline .0)) (asked .0) (priority .0) g now ⌝ }
+    ensures { λ r. ⌜ r ≡ turnOf (ruleOf (edition .0) (take m rates) (size .0) (deadline .0)) (asked .0) (priority .0) g now ⌝ }
 {
     let first = g.start;
     let last = g.end;
@@ -221,7 +224,15 @@ pub fn turn(
         return broken(now);
     }
     match now {
-        Run::Idle => begin(rates, m, last, units::later(first, asked), size, deadline),
+        Run::Idle => begin(
+            edition,
+            rates,
+            m,
+            last,
+            units::later(first, asked),
+            size,
+            deadline,
+        ),
         Run::Going(run) => reach(last, run),
         Run::Sent(run) => Run::Sent(run),
     }
@@ -236,6 +247,7 @@ pub fn state(going: bool, run: Interval) -> Run
 
 // dry_run_tx: the first run of segments below the priority that reaches its end.
 pub fn find_run(
+    edition: Edition,
     rates: [VolumeSegment; RateSegment::COUNT_MAX],
     m: usize,
     window: Interval,
@@ -246,7 +258,7 @@ pub fn find_run(
     priority: Priority,
 ) -> Run
     requires { ⌜ m ≤ segmentsMax ⌝ ∗ ⌜ 0 < size .0 ⌝ ∗ ⌜ Covers (window .start .0) (take m rates) ⌝ ∗ ⌜ n ≤ listedMax ⌝ ∗ ⌜ From (window .start .0) (take n segments) ⌝ }
-    ensures { λ r. ⌜ r ≡ searchOf (ruleOf (take m rates) (size .0) (window .end .0)) (asked .0) (priority .0) (take n segments) Idle ⌝ }
+    ensures { λ r. ⌜ r ≡ searchOf (ruleOf (edition .0) (take m rates) (size .0) (window .end .0)) (asked .0) (priority .0) (take n segments) Idle ⌝ }
 {
     let deadline = window.end;
     let mut i: usize = 0;
@@ -258,7 +270,7 @@ pub fn find_run(
             break now;
         }
         let g = segments[i];
-        match turn(rates, m, asked, size, priority, deadline, g, now) {
+        match turn(edition, rates, m, asked, size, priority, deadline, g, now) {
             Run::Sent(found) => {
                 break Run::Sent(found);
             }

@@ -7,6 +7,7 @@ use Rattle.units.specs.Arrays.{padded}
 use Rattle.segmentation.specs.Capacity.{rateAt, capOf}
 use Rattle.segmentation.specs.End.{reachOf as tickOf, closeOf, endOf}
 use Rattle.segmentation.specs.Delay.{fromDate, delaysOf}
+use Rattle.contact.specs.Choices.{choicesOk}
 use Rattle.contact.specs.Segments.{spans, covers, delaysOk, noVolume, noDelay}
 use Rattle.contact.specs.Open.{totalOf, volumeOk, openContact}
 use Rattle.contact.specs.Record.{contactOk}
@@ -44,5 +45,5 @@ use Rattle.cases.specs.Table.{table}
 use Rattle.cases.specs.Claim.{openingOf, listAs, answerOf, nextOf, answersOf, saidOf, Holds}
 
 pub cases : Holds table
-unfolding roomOf both allOf windowOk loadOk bundleOk sameDates offers padded rateAt capOf tickOf closeOf endOf fromDate delaysOf spans covers delaysOk noVolume noDelay totalOf volumeOk openContact contactOk segmentOk listOk furtherOf offerOf leftOf cutOf cutList freeOk freeRecordOk openFree dryRunFree bookFree listFree follows coverOk noBooking reachOf beginOf brokenOf freeOf turnOf searchOf partsOf setOf setBookings bookingsOk priorityRecordOk openPriority dryRunPriority bookPriority listPriority stepOf hornerOf capacityTo magOf rangeOk coefficientsOk polyOk areaFrom halveOf findEnd delayOk polynomialDelaysOk openPolynomial polynomialRecordOk offerPolynomial dryRunPolynomial rateOk budgetsOk openQueue queueRecordOk answerAt dryRunQueue addTo enqueueAt bookQueue listQueue keptFree keptPriority keptPolynomial keptQueue dryRunAs bookAs openingOf listAs answerOf nextOf answersOf saidOf Holds
-cases = (refl, refl, (refl, refl, (refl, refl, (refl, refl, (refl, refl, (refl, refl, (refl, refl, (refl, refl, (refl, refl, (refl, refl, (refl, refl, (refl, refl, (refl, refl, tt)))))))))))))
+unfolding roomOf both allOf windowOk loadOk bundleOk sameDates offers padded rateAt capOf tickOf closeOf endOf fromDate delaysOf spans covers delaysOk noVolume noDelay totalOf volumeOk choicesOk openContact contactOk segmentOk listOk furtherOf offerOf leftOf cutOf cutList freeOk freeRecordOk openFree dryRunFree bookFree listFree follows coverOk noBooking reachOf beginOf brokenOf freeOf turnOf searchOf partsOf setOf setBookings bookingsOk priorityRecordOk openPriority dryRunPriority bookPriority listPriority stepOf hornerOf capacityTo magOf rangeOk coefficientsOk polyOk areaFrom halveOf findEnd delayOk polynomialDelaysOk openPolynomial polynomialRecordOk offerPolynomial dryRunPolynomial rateOk budgetsOk openQueue queueRecordOk answerAt dryRunQueue addTo enqueueAt bookQueue listQueue keptFree keptPriority keptPolynomial keptQueue dryRunAs bookAs openingOf listAs answerOf nextOf answersOf saidOf Holds
+cases = (refl, refl, (refl, refl, (refl, refl, (refl, refl, (refl, refl, (refl, refl, (refl, refl, (refl, refl, (refl, refl, (refl, refl, (refl, refl, (refl, refl, (refl, refl, (refl, refl, (refl, refl, (refl, refl, tt))))))))))))))))

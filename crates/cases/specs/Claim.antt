@@ -50,10 +50,10 @@ delayArray l = padded segmentsMax zeroDelay l
 
 -- an opening's number, and what is held after it
 unfoldable pub openingOf : Opening → Done
-openingOf (free w r d) =
-    let o : FreeOpened = openFree w (rateArray r) (length r) (delayArray d) (length d) in keptFree nothing (o .number) (o .manager)
-openingOf (priority w r d) =
-    let o : PriorityOpened = openPriority w (rateArray r) (length r) (delayArray d) (length d) in
+openingOf (free h w r d) =
+    let o : FreeOpened = openFree h w (rateArray r) (length r) (delayArray d) (length d) in keptFree nothing (o .number) (o .manager)
+openingOf (priority h w r d) =
+    let o : PriorityOpened = openPriority h w (rateArray r) (length r) (delayArray d) (length d) in
     keptPriority nothing (o .number) (o .manager)
 openingOf (polynomial w c z d) =
     let o : PolynomialOpened = openPolynomial w (record { coefficients = c; offset = record { 0 = z } }) (delayArray d) (length d) in

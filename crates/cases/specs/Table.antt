@@ -1,4 +1,5 @@
 -- 01, "Proved cases": the eleven cases, in 01's words above each row. Every row opens fresh, with A's figures where no others are given.
+-- Below them cases that 02 asks again: R-5, under edition 2.
 use mathlib.Core.Bool.{true, false}
 use mathlib.Core.List.{List, [], _∷_}
 use lib.IntN.{pos}
@@ -6,8 +7,9 @@ use Rattle.units.specs.declared.Interval.{Interval}
 use Rattle.units.specs.Answer.{interval}
 use Rattle.segmentation.specs.declared.RateSegment.{RateSegment}
 use Rattle.segmentation.specs.declared.DelaySegment.{DelaySegment}
+use Rattle.contact.specs.Choices.{ported}
 use Rattle.cases.specs.Words.{Case, free, priority, polynomial, queue, dryRun, book, list, done, _⇒_}
-use Rattle.cases.specs.Words.{case, rate, delay, flags, dates, sends, refusal, lists, queued, row, unbooked}
+use Rattle.cases.specs.Words.{case, edition, rate, delay, flags, dates, sends, refusal, lists, queued, row, unbooked}
 
 -- contact A: [0,10), rate 10, delay 3
 abbrev pub A : Interval
@@ -22,52 +24,52 @@ A-delays = delay 0 10 3 ∷ []
 abbrev pub table : List Case
 table =
     -- 1. Free, at 3, size 15: send 3,4, receive 6,7; booked: [0,3) 30, [4,10) 60.
-    case 1 (free A A-rates A-delays)
+    case 1 (free ported A A-rates A-delays)
     (dryRun 3 15 0 ⇒ sends 3 4 6 7
     ∷ book 3 15 0 (dates 3 4 6 7) ⇒ done 0
     ∷ list ⇒ lists (row 0 3 30 ∷ row 4 10 60 ∷ [])
     ∷ [])
     -- 2. At 0, size 15: send 0,1; booked: [1,10) 85.
-    ∷ case 2 (free A A-rates A-delays)
+    ∷ case 2 (free ported A A-rates A-delays)
     (dryRun 0 15 0 ⇒ sends 0 1 3 4
     ∷ book 0 15 0 (dates 0 1 3 4) ⇒ done 0
     ∷ list ⇒ lists (row 1 10 85 ∷ [])
     ∷ [])
     -- 3. At 5, size 9: send 5,5; booked: [0,5) 50 only.
-    ∷ case 3 (free A A-rates A-delays)
+    ∷ case 3 (free ported A A-rates A-delays)
     (dryRun 5 9 0 ⇒ sends 5 5 8 8
     ∷ book 5 9 0 (dates 5 5 8 8) ⇒ done 0
     ∷ list ⇒ lists (row 0 5 50 ∷ [])
     ∷ [])
     -- 4. At 0, size 100: send 0,10; booked: [10,10) 0.
-    ∷ case 4 (free A A-rates A-delays)
+    ∷ case 4 (free ported A A-rates A-delays)
     (dryRun 0 100 0 ⇒ sends 0 10 3 13
     ∷ book 0 100 0 (dates 0 10 3 13) ⇒ done 0
     ∷ list ⇒ lists (row 10 10 0 ∷ [])
     ∷ [])
     -- 4. Size 101: 7.
-    ∷ case 4 (free A A-rates A-delays)
+    ∷ case 4 (free ported A A-rates A-delays)
     (dryRun 0 101 0 ⇒ refusal 7
     ∷ [])
     -- 5. After size 50 at 5: at 3, size 29: send 3,5; size 30: 7.
-    ∷ case 5 (free A A-rates A-delays)
+    ∷ case 5 (free ported A A-rates A-delays)
     (dryRun 5 50 0 ⇒ sends 5 10 8 13
     ∷ book 5 50 0 (dates 5 10 8 13) ⇒ done 0
     ∷ dryRun 3 29 0 ⇒ sends 3 5 6 8
     ∷ dryRun 3 30 0 ⇒ refusal 7
     ∷ [])
     -- 6. Rates [0,4) 2, [4,10) 5; at 1, size 11 or 14: end 5.
-    ∷ case 6 (free A (rate 0 4 2 ∷ rate 4 10 5 ∷ []) A-delays)
+    ∷ case 6 (free ported A (rate 0 4 2 ∷ rate 4 10 5 ∷ []) A-delays)
     (dryRun 1 11 0 ⇒ sends 1 5 4 8
     ∷ dryRun 1 14 0 ⇒ sends 1 5 4 8
     ∷ [])
     -- 7. Delays [0,4) 10, [4,10) 2; A's rate; at 4, size 10: send 4,5, receive 14,7.
-    ∷ case 7 (free A A-rates (delay 0 4 10 ∷ delay 4 10 2 ∷ []))
+    ∷ case 7 (free ported A A-rates (delay 0 4 10 ∷ delay 4 10 2 ∷ []))
     (dryRun 4 10 0 ⇒ sends 4 5 14 7
     ∷ [])
     -- 8. Priority 1, at 2, size 30: [0,2) -1, [2,5) 1, [5,10) -1. Then at 0, size 30: priority 1 gets 5,8; priority 2 gets 0,3 and,
     -- booked, [0,2) 2, [2,3) 2, [3,5) 1, [5,10) -1.
-    ∷ case 8 (priority A A-rates A-delays)
+    ∷ case 8 (priority ported A A-rates A-delays)
     (dryRun 2 30 1 ⇒ sends 2 5 5 8
     ∷ book 2 30 1 (dates 2 5 5 8) ⇒ done 0
     ∷ list ⇒ lists (unbooked 0 2 ∷ row 2 5 1 ∷ unbooked 5 10 ∷ [])
@@ -77,7 +79,7 @@ table =
     ∷ list ⇒ lists (row 0 2 2 ∷ row 2 3 2 ∷ row 3 5 1 ∷ unbooked 5 10 ∷ [])
     ∷ [])
     -- 9. Priority 0, at 5, size 9: [0,5) -1, [5,5) 0, [5,10) -1. Then priority 0, at 0, size 100: 7.
-    ∷ case 9 (priority A A-rates A-delays)
+    ∷ case 9 (priority ported A A-rates A-delays)
     (dryRun 5 9 0 ⇒ sends 5 5 8 8
     ∷ book 5 9 0 (dates 5 5 8 8) ⇒ done 0
     ∷ list ⇒ lists (unbooked 0 5 ∷ row 5 5 0 ∷ unbooked 5 10 ∷ [])
@@ -99,5 +101,26 @@ table =
     ∷ book 0 25 1 (dates 0 2 2 4) ⇒ done 0
     ∷ list ⇒ queued (25 ∷ 25 ∷ 0 ∷ [])
     ∷ dryRun 0 25 0 ⇒ sends 2 4 4 6
+    ∷ [])
+    -- 02, R-5, edition 2. Case 5: after size 50 at 5, two ticks of ten are left at 3: size 29, and 21: 7; size 20: send 3,5.
+    ∷ case 5 (free (edition 2) A A-rates A-delays)
+    (dryRun 5 50 0 ⇒ sends 5 10 8 13
+    ∷ book 5 50 0 (dates 5 10 8 13) ⇒ done 0
+    ∷ dryRun 3 29 0 ⇒ refusal 7
+    ∷ dryRun 3 21 0 ⇒ refusal 7
+    ∷ dryRun 3 20 0 ⇒ sends 3 5 6 8
+    ∷ [])
+    -- Case 2: at 0, size 15: send 0,2; booked: [2,10) with its exact capacity, 80. The first end is not offered.
+    ∷ case 2 (free (edition 2) A A-rates A-delays)
+    (book 0 15 0 (dates 0 1 3 4) ⇒ done 9
+    ∷ dryRun 0 15 0 ⇒ sends 0 2 3 5
+    ∷ book 0 15 0 (dates 0 2 3 5) ⇒ done 0
+    ∷ list ⇒ lists (row 2 10 80 ∷ [])
+    ∷ [])
+    -- Case 9: priority 0, at 5, size 9: send 5,6; booked, no segment is empty: [0,5) -1, [5,6) 0, [6,10) -1.
+    ∷ case 9 (priority (edition 2) A A-rates A-delays)
+    (dryRun 5 9 0 ⇒ sends 5 6 8 9
+    ∷ book 5 9 0 (dates 5 6 8 9) ⇒ done 0
+    ∷ list ⇒ lists (unbooked 0 5 ∷ row 5 6 0 ∷ unbooked 6 10 ∷ [])
     ∷ [])
     ∷ []

@@ -10,12 +10,13 @@ use Rattle.units.specs.declared.Offer.{Offer}
 use Rattle.units.specs.Answer.{interval, refused}
 use Rattle.segmentation.specs.declared.RateSegment.{RateSegment}
 use Rattle.segmentation.specs.declared.DelaySegment.{DelaySegment}
+use Rattle.contact.specs.declared.Choices.{Choices}
 use Rattle.legacy.specs.declared.Flags.{Flags}
 
--- whose record, and the figures that it is opened with
+-- whose record, and the choices and figures that it is opened with
 pub data Opening : Type 0 where
-  free : (window : Interval) (rates : List RateSegment) (delays : List DelaySegment) → Opening
-  priority : (window : Interval) (rates : List RateSegment) (delays : List DelaySegment) → Opening
+  free : (choices : Choices) (window : Interval) (rates : List RateSegment) (delays : List DelaySegment) → Opening
+  priority : (choices : Choices) (window : Interval) (rates : List RateSegment) (delays : List DelaySegment) → Opening
   polynomial : (window : Interval) (coefficients : List ℤ) (offset : ℕ) (delays : List DelaySegment) → Opening
   queue : (window : Interval) (rate delay classes : ℕ) (flags : Flags) (budgets : List Volume) → Opening
 
@@ -51,6 +52,10 @@ pub record Case : Type 0 where
 
 abbrev pub case : ℕ → Opening → List Step → Case
 case n o l = record { number = n; opening = o; steps = l }
+
+-- 02, R-5: the edition of the end rule
+abbrev pub edition : ℕ → Choices
+edition n = record { edition = record { 0 = n } }
 
 abbrev pub rate : ℕ → ℕ → ℕ → RateSegment
 rate a b v = record { start = record { 0 = a }; end = record { 0 = b }; rate = record { 0 = v } }

@@ -13,10 +13,10 @@ use Rattle.units.specs.Logic.{both, allOf}
 use Rattle.units.proofs.Logic.{both-yes, all-go, all-none}
 use Rattle.units.proofs.Arrays.{take-map, take-padded, unused-padded}
 use Rattle.segmentation.specs.declared.RateSegment.{RateSegment}
-use Rattle.segmentation.specs.declared.VolumeSegment.{VolumeSegment}
 use Rattle.segmentation.specs.declared.DelaySegment.{DelaySegment}
 use Rattle.segmentation.specs.Capacity.{rateOf}
 use Rattle.segmentation.proofs.Capacity.{volumeSum}
+use Rattle.contact.specs.declared.Choices.{Choices}
 use Rattle.contact.specs.declared.Opened.{Opened}
 use Rattle.contact.specs.Segments.{rateSpan, covers, delaysOk, volumeOf, rateSegment, wholeOf, zeroVolume, zeroDelay, noVolume, noDelay}
 use Rattle.contact.specs.Open.{totalOf, contactOf, openContact}
@@ -50,12 +50,13 @@ whole-back (s ∷ l) f =
     all-go wholeOf (volumeOf s) (map volumeOf l) (eq-eqb _ _ (ap (λ (r : ℕ). r * (s .end .0 - s .start .0)) (sym (rate-back s (f .0))))) ∙ whole-back l (f .1)
 
 -- the opening's tests look at the first places only
-passed-takes : (w : Interval) (rates rates′ : List RateSegment) (m : ℕ) (delays delays′ : List DelaySegment) (k : ℕ) → take m rates ≡ take m rates′ → take k delays ≡ take k delays′
-    → Passed w rates m delays k
-    → Passed w rates′ m delays′ k
+passed-takes : (h : Choices) (w : Interval) (rates rates′ : List RateSegment) (m : ℕ) (delays delays′ : List DelaySegment) (k : ℕ) → take m rates ≡ take m rates′ → take k delays ≡ take k delays′
+    → Passed h w rates m delays k
+    → Passed h w rates′ m delays′ k
 unfolding covers delaysOk
-passed-takes w rates rates′ m delays delays′ k e f p =
+passed-takes h w rates rates′ m delays delays′ k e f p =
     record {
+      choice = p .choice;
       window = p .window;
       rate = rw (← e) (p .rate);
       volume = rw (← e) (p .volume);
@@ -70,36 +71,36 @@ zero-delay : noDelay zeroDelay ≡ true
 unfolding noDelay both
 zero-delay = refl
 
-module _ (w : Interval) (rates : List RateSegment) (m : ℕ) (delays : List DelaySegment) (k : ℕ) where
-  module _ (rate-size : length rates ≡ segmentsMax) (p : Passed w rates m delays k) where
+module _ (h : Choices) (w : Interval) (rates : List RateSegment) (m : ℕ) (delays : List DelaySegment) (k : ℕ) where
+  module _ (rate-size : length rates ≡ segmentsMax) (p : Passed h w rates m delays k) where
     volumes-size : length (map volumeOf (take m rates)) ≡ m
     volumes-size = let most : m ≤ segmentsMax = covers-most rateSpan w m rates (p .rate) in simp (length-map, length-take) (omega arith)
 
     -- the places that the contact uses
-    volumes-front : take m (contactOf w rates m delays k .rates) ≡ map volumeOf (take m rates)
+    volumes-front : take m (contactOf h w rates m delays k .rates) ≡ map volumeOf (take m rates)
     volumes-front = take-padded segmentsMax zeroVolume _ m volumes-size
 
-    pub passed-total : totalOf (take m rates) ≡ volumeSum (take m (contactOf w rates m delays k .rates))
+    pub passed-total : totalOf (take m rates) ≡ volumeSum (take m (contactOf h w rates m delays k .rates))
     passed-total = total-sum (take m rates) ∙ ap volumeSum (sym volumes-front)
 
-    pub passed-ok : length delays ≡ segmentsMax → contactOk (contactOf w rates m delays k) ≡ true
+    pub passed-ok : length delays ≡ segmentsMax → contactOk (contactOf h w rates m delays k) ≡ true
     unfolding contactOk
     passed-ok delay-size =
         let most : k ≤ segmentsMax = delays-most w k delays (p .delay) in
         let size : length (take k delays) ≡ k = simp length-take (omega arith) in
         let forth : Forward (take m rates) = rates-forward w m rates (p .window) (p .rate) in
-        let front : take m (map rateSegment (contactOf w rates m delays k .rates)) ≡ take m rates =
+        let front : take m (map rateSegment (contactOf h w rates m delays k .rates)) ≡ take m rates =
         take-map rateSegment m _ ∙ ap (map rateSegment) volumes-front ∙ rates-back (take m rates) forth in
-        let again : Passed w (map rateSegment (contactOf w rates m delays k .rates)) m (contactOf w rates m delays k .delays) k =
-        passed-takes w rates _ m delays _ k (sym front) (sym (take-padded segmentsMax zeroDelay _ k size)) p in
-        both-yes _ _ (eq-eqb _ _ (ap (λ (r : Opened). r .number) (done _ _ _ _ _ again)))
+        let again : Passed h w (map rateSegment (contactOf h w rates m delays k .rates)) m (contactOf h w rates m delays k .delays) k =
+        passed-takes h w rates _ m delays _ k (sym front) (sym (take-padded segmentsMax zeroDelay _ k size)) p in
+        both-yes _ _ (eq-eqb _ _ (ap (λ (r : Opened). r .number) (done _ _ _ _ _ _ again)))
         (both-yes _ _ (ap (allOf wholeOf) volumes-front ∙ whole-back (take m rates) forth)
         (both-yes _ _ (unused-padded segmentsMax zeroVolume noVolume _ m volumes-size zero-volume)
         (unused-padded segmentsMax zeroDelay noDelay _ k size zero-delay)))
 
-  pub opened-ok : length rates ≡ segmentsMax → length delays ≡ segmentsMax → openContact w rates m delays k .number ≡ 0 → contactOk (openContact w rates m delays k .contact) ≡ true
+  pub opened-ok : length rates ≡ segmentsMax → length delays ≡ segmentsMax → openContact h w rates m delays k .number ≡ 0 → contactOk (openContact h w rates m delays k .contact) ≡ true
   opened-ok a b e =
-      let o = opened-is w rates m delays k e in ap (λ (r : Opened). contactOk (r .contact)) (o .0) ∙ passed-ok a (o .1) b
+      let o = opened-is h w rates m delays k e in ap (λ (r : Opened). contactOk (r .contact)) (o .0) ∙ passed-ok a (o .1) b
 
-  pub opened-total : length rates ≡ segmentsMax → openContact w rates m delays k .number ≡ 0 → totalOf (take m rates) ≡ volumeSum (take m (contactOf w rates m delays k .rates))
-  opened-total a e = passed-total a (passed w rates m delays k e)
+  pub opened-total : length rates ≡ segmentsMax → openContact h w rates m delays k .number ≡ 0 → totalOf (take m rates) ≡ volumeSum (take m (contactOf h w rates m delays k .rates))
+  opened-total a e = passed-total a (passed h w rates m delays k e)

@@ -14,6 +14,7 @@ use Rattle.units.proofs.Arrays.{take-map}
 use Rattle.segmentation.specs.declared.VolumeSegment.{VolumeSegment}
 use Rattle.contact.specs.declared.Contact.{Contact}
 use Rattle.contact.specs.declared.Opened.{Opened}
+use Rattle.contact.specs.Choices.{choicesOk}
 use Rattle.contact.specs.Segments.{rateSpan, volumeSpan, covers, delaysOk, rateSegment, wholeOf, noVolume, noDelay}
 use Rattle.contact.specs.Open.{volumeOk}
 use Rattle.contact.specs.Record.{contactOk}
@@ -62,32 +63,34 @@ module _ (w : Interval) (n : ℕ) (l : List VolumeSegment) where
 -- the code's tests, in their order
 abbrev pub testsOf : Contact → Bool
 testsOf c =
-    both (windowOk (c .window))
+    both (choicesOk (c .choices))
+    (both (windowOk (c .window))
     (both (countedVolumes (c .window) (c .«rate_count») (c .rates))
     (both (delaysOk (c .window) (c .«delay_count») (c .delays))
     (both (allOf noVolume (drop (c .«rate_count») (c .rates)))
-    (allOf noDelay (drop (c .«delay_count») (c .delays))))))
+    (allOf noDelay (drop (c .«delay_count») (c .delays)))))))
 
 module _ (c : Contact) where
   -- an opening with the contact's own figures passes
   abbrev Own : Type 0
-  Own = Passed (c .window) (map rateSegment (c .rates)) (c .«rate_count») (c .delays) (c .«delay_count»)
+  Own = Passed (c .choices) (c .window) (map rateSegment (c .rates)) (c .«rate_count») (c .delays) (c .«delay_count»)
 
   ok-tests : contactOk c ≡ true → testsOf c ≡ true
   unfolding contactOk
   ok-tests e =
-      let p : Own = passed _ _ _ _ _ (eqb-true _ _ (both-fst _ _ e)) in
+      let p : Own = passed _ _ _ _ _ _ (eqb-true _ _ (both-fst _ _ e)) in
       let rest = both-snd _ _ e in
-      both-yes _ _ (p .window) (both-yes _ _ (rates-volumes _ _ _ (p .rate) (both-fst _ _ rest) (p .volume)) (both-yes _ _ (p .delay) (both-snd _ _ rest)))
+      both-yes _ _ (p .choice) (both-yes _ _ (p .window) (both-yes _ _ (rates-volumes _ _ _ (p .rate) (both-fst _ _ rest) (p .volume)) (both-yes _ _ (p .delay) (both-snd _ _ rest))))
 
   tests-ok : testsOf c ≡ true → contactOk c ≡ true
   unfolding contactOk
   tests-ok e =
-      let e1 = both-snd _ _ e in
+      let e0 = both-snd _ _ e in
+      let e1 = both-snd _ _ e0 in
       let e2 = both-snd _ _ e1 in
       let v : countedVolumes (c .window) (c .«rate_count») (c .rates) ≡ true = both-fst _ _ e1 in
-      let p : Own = record { window = both-fst _ _ e; rate = volumes-cover _ _ _ v; volume = volumes-within _ _ _ v; delay = both-fst _ _ e2 } in
-      both-yes _ _ (eq-eqb _ _ (ap (λ (r : Opened). r .number) (done _ _ _ _ _ p))) (both-yes _ _ (volumes-whole _ _ _ v) (both-snd _ _ e2))
+      let p : Own = record { choice = both-fst _ _ e; window = both-fst _ _ e0; rate = volumes-cover _ _ _ v; volume = volumes-within _ _ _ v; delay = both-fst _ _ e2 } in
+      both-yes _ _ (eq-eqb _ _ (ap (λ (r : Opened). r .number) (done _ _ _ _ _ _ p))) (both-yes _ _ (volumes-whole _ _ _ v) (both-snd _ _ e2))
 
   pub contact-is : contactOk c ≡ testsOf c
   contact-is = same-test _ _ ok-tests tests-ok

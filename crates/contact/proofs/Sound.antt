@@ -14,6 +14,7 @@ use Rattle.segmentation.specs.declared.VolumeSegment.{VolumeSegment}
 use Rattle.segmentation.specs.End.{closeOf}
 use Rattle.segmentation.specs.Granted.{Run}
 use Rattle.contact.specs.declared.Contact.{Contact}
+use Rattle.contact.specs.Choices.{choicesOk}
 use Rattle.contact.specs.Segments.{volumeSpan, delaySpan, spans, delayOk, delaysOk}
 use Rattle.contact.specs.Record.{totalIn, contactOk}
 use Rattle.contact.specs.Granted.{countedVolumes}
@@ -23,6 +24,7 @@ use Rattle.contact.proofs.Delays.{delays-some, delays-most, delays-span
 use Rattle.contact.proofs.Records.{contact-is, volumes-some, volumes-most, volumes-hold}
 
 pub record Sound (c : Contact) : Type 0 where
+  pub chosen : choicesOk (c .choices) ≡ true
   pub some : c .window .start .0 < c .window .end .0
   pub date : c .window .end .0 ≤ dateMax
   pub short : c .window .end .0 ≤ c .window .start .0 + lengthMax
@@ -54,13 +56,15 @@ kept-run lo b short date (s ∷ l) a room h m k =
 
 pub sound : (c : Contact) → contactOk c ≡ true → Sound c
 sound c e =
-    let e0 = sym (contact-is c) ∙ e in
+    let tests = sym (contact-is c) ∙ e in
+    let e0 = both-snd _ _ tests in
     let e1 = both-snd _ _ e0 in
     let w : Window (c .window) = window _ (both-fst _ _ e0) in
     let v : countedVolumes (c .window) (c .«rate_count») (c .rates) ≡ true = both-fst _ _ e1 in
     let d : delaysOk (c .window) (c .«delay_count») (c .delays) ≡ true = both-fst _ _ (both-snd _ _ e1) in
     let k : Kept (c .window .end .0) (c .window .start .0) volumeMax (take (c .«rate_count») (c .rates)) = volumes-kept _ _ (volumes-hold _ _ _ v) in
     record {
+      chosen = both-fst _ _ tests;
       some = w .some;
       date = w .date;
       short = w .short;

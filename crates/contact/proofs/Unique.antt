@@ -9,7 +9,10 @@ use Rattle.units.proofs.Determined.{Determined}
 use Rattle.segmentation.specs.declared.RateSegment.{RateSegment}
 use Rattle.segmentation.specs.declared.VolumeSegment.{VolumeSegment}
 use Rattle.segmentation.specs.declared.DelaySegment.{DelaySegment}
+use Rattle.contact.specs.declared.Choices.{Choices}
 use Rattle.contact.specs.declared.Contact.{Contact}
+use Rattle.contact.proofs.Choices.ported.Reads as ported-reads
+use Rattle.contact.proofs.Choices.ok.Reads as choices-reads
 use Rattle.contact.proofs.Contact.open.Reads as open-reads
 use Rattle.contact.proofs.Contact.ok.Reads as ok-reads
 use Rattle.contact.proofs.Contact.refused.Reads as refused-reads
@@ -30,8 +33,14 @@ use Rattle.contact.proofs.test.takes.Reads as takes-reads
 use Rattle.contact.proofs.test.no_volume.Reads as no-volume-reads
 use Rattle.contact.proofs.test.no_delay.Reads as no-delay-reads
 
-pub open-unique : (window : Interval) (rates : List RateSegment) (m : ℕ) (delays : List DelaySegment) (k : ℕ) → Determined (open-reads.Post tt (window, (rates, (m, (delays, (k, tt))))))
-open-unique window rates m delays k r q x y f g = f ∙ sym g
+pub open-unique : (choices : Choices) (window : Interval) (rates : List RateSegment) (m : ℕ) (delays : List DelaySegment) (k : ℕ) → Determined (open-reads.Post tt (choices, (window, (rates, (m, (delays, (k, tt)))))))
+open-unique choices window rates m delays k r q x y f g = f ∙ sym g
+
+pub ported-unique : Determined (ported-reads.Post tt tt)
+ported-unique r q x y f g = f ∙ sym g
+
+pub choices-unique : (h : Choices) → Determined (choices-reads.Post tt (h, tt))
+choices-unique h r q x y f g = f ∙ sym g
 
 pub ok-unique : (c : Contact) → Determined (ok-reads.Post tt (c, tt))
 ok-unique c r q x y f g = f ∙ sym g

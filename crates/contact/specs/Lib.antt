@@ -1,3 +1,4 @@
+pub mod Choices
 pub mod Segments
 pub mod Open
 pub mod Record

@@ -7,6 +7,8 @@ use mathlib.Core.List.{List, map}
 use Rattle.units.specs.Logic.{both, allOf}
 use Rattle.segmentation.specs.declared.VolumeSegment.{VolumeSegment}
 use Rattle.segmentation.specs.declared.DelaySegment.{DelaySegment}
+use Rattle.segmentation.specs.declared.End.{End}
+use Rattle.segmentation.specs.End.{endOf}
 use Rattle.contact.specs.declared.Contact.{Contact}
 use Rattle.contact.specs.Segments.{rateSegment, wholeOf, noVolume, noDelay}
 use Rattle.contact.specs.Open.{totalOf, openContact}
@@ -22,10 +24,17 @@ delayList c = take (c .«delay_count») (c .delays)
 abbrev pub totalIn : Contact → ℕ
 totalIn c = totalOf (map rateSegment (ratesOf c))
 
+-- the edition that a contact names, and its end rule over the rate segments
+abbrev pub editionOf : Contact → ℕ
+editionOf c = c .choices .edition .0
+
+abbrev pub endRule : Contact → ℕ → ℕ → ℕ → End
+endRule c = endOf (editionOf c) (ratesOf c)
+
 -- an opening with the contact's own figures is done, its volumes are rates times lengths, and nothing is in an unused place
 unfoldable pub contactOk : Contact → Bool
 contactOk c =
-    both (eqb (openContact (c .window) (map rateSegment (c .rates)) (c .«rate_count») (c .delays) (c .«delay_count») .number) 0)
+    both (eqb (openContact (c .choices) (c .window) (map rateSegment (c .rates)) (c .«rate_count») (c .delays) (c .«delay_count») .number) 0)
     (both (allOf wholeOf (take (c .«rate_count») (c .rates)))
     (both (allOf noVolume (drop (c .«rate_count») (c .rates)))
     (allOf noDelay (drop (c .«delay_count») (c .delays)))))

@@ -1,6 +1,7 @@
 // What the free-volume and the priority record share: the window, the rate and the delay segments, their opening and their test.
 use opening::Total;
 use segmentation::DelaySegment;
+use segmentation::Edition;
 use segmentation::RateSegment;
 use segmentation::VolumeSegment;
 use units::Date;
@@ -13,14 +14,43 @@ ghost use mathlib.Core.Bool.{true};
 ghost use Prim.Native.Nat.{_≤_};
 ghost use Rattle.units.specs.Limits.{dateMax};
 ghost use Rattle.segmentation.specs.Delay.{answerWith};
+ghost use Rattle.contact.specs.Choices.{ported, choicesOk};
 ghost use Rattle.contact.specs.Open.{openContact, refusedContact};
 ghost use Rattle.contact.specs.Record.{contactOk, delayList};
 
 pub mod opening;
 pub mod test;
 
+// What an opening chooses and the record names: the edition of the end rule.
+#[repr(C)]
+pub struct Choices {
+    pub edition: Edition,
+}
+
+impl Choices {
+    // What the source has.
+    pub fn ported() -> Choices
+        ensures { λ r. ⌜ r ≡ ported ⌝ }
+    {
+        Choices {
+            edition: Edition(Edition::FIRST),
+        }
+    }
+
+    // Is each choice one that there is?
+    pub fn ok(self) -> bool
+        ensures { λ r. ⌜ r ≡ choicesOk self ⌝ }
+    {
+        if self.edition.0 < Edition::FIRST {
+            return false;
+        }
+        self.edition.0 <= Edition::SECOND
+    }
+}
+
 #[repr(C)]
 pub struct Contact {
+    pub choices: Choices,
     pub window: Interval,
     pub rates: [VolumeSegment; RateSegment::COUNT_MAX],
     pub rate_count: usize,
@@ -41,6 +71,9 @@ impl Contact {
     pub fn refused(number: u8) -> Opened
         ensures { λ r. ⌜ r ≡ refusedContact number ⌝ }
     {
+        let unchosen = Choices {
+            edition: Edition(0),
+        };
         let none = Interval {
             start: Date(0),
             end: Date(0),
@@ -61,6 +94,7 @@ impl Contact {
             number: number,
             total: Volume(0),
             contact: Contact {
+                choices: unchosen,
                 window: none,
                 rates: rates,
                 rate_count: 0,
@@ -70,16 +104,20 @@ impl Contact {
         }
     }
 
-    // try_init: 3, 4, 6, 5 in this order.
+    // try_init: 2 for a choice that there is not, then 3, 4, 6, 5 in this order.
     pub fn open(
+        choices: Choices,
         window: Interval,
         rates: [RateSegment; RateSegment::COUNT_MAX],
         rate_count: usize,
         delays: [DelaySegment; DelaySegment::COUNT_MAX],
         delay_count: usize,
     ) -> Opened
-        ensures { λ r. ⌜ r ≡ openContact window rates «rate_count» delays «delay_count» ⌝ }
+        ensures { λ r. ⌜ r ≡ openContact choices window rates «rate_count» delays «delay_count» ⌝ }
     {
+        if !choices.ok() {
+            return Contact::refused(units::refusal::CHOICE);
+        }
         if !window.is_window() {
             return Contact::refused(units::refusal::WINDOW);
         }
@@ -98,6 +136,7 @@ impl Contact {
             number: 0,
             total: total,
             contact: Contact {
+                choices: choices,
                 window: window,
                 rates: volumes,
                 rate_count: rate_count,
@@ -111,11 +150,15 @@ impl Contact {
     pub fn ok(self) -> bool
         ensures { λ r. ⌜ r ≡ contactOk self ⌝ }
     {
+        let choices = self.choices;
         let window = self.window;
         let rates = self.rates;
         let delays = self.delays;
         let m = self.rate_count;
         let k = self.delay_count;
+        if !choices.ok() {
+            return false;
+        }
         if !window.is_window() {
             return false;
         }

@@ -1,10 +1,12 @@
 // The free-volume manager: contact [0,10), rate 10, delay 3.
+use crate::edition;
 use crate::out;
 use crate::over;
 use contact::Contact;
 use free_list::FreeList;
 use seg::FreeVolume;
 use segmentation::DelaySegment;
+use segmentation::Edition;
 use segmentation::RateSegment;
 use segmentation::VolumeSegment;
 use units::Bundle;
@@ -69,7 +71,7 @@ fn fresh() -> FreeVolume {
         start: Date(0),
         end: Date(10),
     };
-    let o = FreeVolume::open(window, rates, 1, delays, 1);
+    let o = FreeVolume::open(contact::Choices::ported(), window, rates, 1, delays, 1);
     o.manager
 }
 
@@ -134,10 +136,12 @@ fn windowed(r: FreeVolume, start: u64, end: u64) -> FreeVolume {
     let free = r.free;
     let room = r.room;
     let c = r.contact;
+    let choices = c.choices;
     let rates = c.rates;
     let delays = c.delays;
     FreeVolume {
         contact: Contact {
+            choices: choices,
             window: Interval {
                 start: Date(start),
                 end: Date(end),
@@ -157,6 +161,7 @@ fn rated(r: FreeVolume, g: VolumeSegment, h: VolumeSegment, count: usize) -> Fre
     let free = r.free;
     let room = r.room;
     let c = r.contact;
+    let choices = c.choices;
     let window = c.window;
     let mut rates = c.rates;
     rates[0] = g;
@@ -164,6 +169,7 @@ fn rated(r: FreeVolume, g: VolumeSegment, h: VolumeSegment, count: usize) -> Fre
     let delays = c.delays;
     FreeVolume {
         contact: Contact {
+            choices: choices,
             window: window,
             rates: rates,
             rate_count: count,
@@ -180,6 +186,7 @@ fn delayed(r: FreeVolume, g: DelaySegment, h: DelaySegment, count: usize) -> Fre
     let free = r.free;
     let room = r.room;
     let c = r.contact;
+    let choices = c.choices;
     let window = c.window;
     let rates = c.rates;
     let mut delays = c.delays;
@@ -187,12 +194,25 @@ fn delayed(r: FreeVolume, g: DelaySegment, h: DelaySegment, count: usize) -> Fre
     delays[1] = h;
     FreeVolume {
         contact: Contact {
+            choices: choices,
             window: window,
             rates: rates,
             rate_count: c.rate_count,
             delays: delays,
             delay_count: count,
         },
+        free: free,
+        room: room,
+    }
+}
+
+// The record with another edition.
+fn named(r: FreeVolume, edition: u64) -> FreeVolume {
+    let contact = edition::named(r.contact, edition);
+    let free = r.free;
+    let room = r.room;
+    FreeVolume {
+        contact: contact,
         free: free,
         room: room,
     }
@@ -258,6 +278,12 @@ fn contacts(r: FreeVolume) {
     report(51, delayed(r, three, delay(0, 0, 1), 1));
     // valid: two delay segments
     report(102, delayed(r, delay(0, 5, 3), delay(5, 10, 3), 2));
+    // valid: edition 2, in which the send is 3,5, so that the booking stated is not offered
+    report(103, named(r, Edition::SECOND));
+    // editions: none, one too many, the largest
+    report(56, named(r, 0));
+    report(57, named(r, over::EDITION));
+    report(35, named(r, 18_446_744_073_709_551_615));
 }
 
 pub fn run() {

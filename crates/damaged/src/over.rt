@@ -2,6 +2,7 @@
 use bookings::Level;
 use legacy::Queue;
 use poly::Polynome;
+use segmentation::Edition;
 use units::Date;
 use units::Delay;
 use units::Interval;
@@ -27,6 +28,8 @@ pub const CLASSES: usize = Queue::CLASSES_MAX + 1;
 pub const BUDGET: u64 = Queue::BUDGET_MAX + 1;
 
 pub const QUEUE: u64 = Queue::QUEUE_MAX + 1;
+
+pub const EDITION: u64 = Edition::SECOND + 1;
 
 // The least rate and volume by which ten ticks carry more than a contact may.
 pub const RATE_OF_TEN: u64 = Volume::MAX / 10 + 1;

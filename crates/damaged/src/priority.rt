@@ -1,4 +1,5 @@
 // The priority manager: contact [0,10), rate 10, delay 3. Its contact part is tested as the free-volume manager's.
+use crate::edition;
 use crate::out;
 use crate::over;
 use bookings::BookingSegment;
@@ -6,6 +7,7 @@ use bookings::Bookings;
 use bookings::Level;
 use pseg::PrioritySeg;
 use segmentation::DelaySegment;
+use segmentation::Edition;
 use segmentation::RateSegment;
 use units::Bundle;
 use units::Date;
@@ -67,7 +69,7 @@ fn fresh() -> PrioritySeg {
         start: Date(0),
         end: Date(10),
     };
-    let o = PrioritySeg::open(window, rates, 1, delays, 1);
+    let o = PrioritySeg::open(contact::Choices::ported(), window, rates, 1, delays, 1);
     o.manager
 }
 
@@ -92,6 +94,16 @@ fn listing(r: PrioritySeg, g: BookingSegment, h: BookingSegment, count: usize) -
             segments: segments,
             count: count,
         },
+    }
+}
+
+// The record with another edition.
+fn named(r: PrioritySeg, edition: u64) -> PrioritySeg {
+    let contact = edition::named(r.contact, edition);
+    let bookings = r.bookings;
+    PrioritySeg {
+        contact: contact,
+        bookings: bookings,
     }
 }
 
@@ -122,4 +134,9 @@ pub fn run() {
     report(75, listing(r, whole, segment(1, 0, 0), 1));
     report(76, listing(r, whole, segment(0, 1, 0), 1));
     report(77, listing(r, whole, segment(0, 0, 1), 1));
+    // valid: edition 2, in which the send is 3,5, so that the booking stated is not offered; editions: none, one too many, the largest
+    report(103, named(r, Edition::SECOND));
+    report(78, named(r, 0));
+    report(79, named(r, over::EDITION));
+    report(80, named(r, 18_446_744_073_709_551_615));
 }

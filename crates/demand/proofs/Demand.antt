@@ -1,32 +1,39 @@
 -- Demand 3: from a fresh opening on, any calls with any answers that the manager's promises allow keep it.
-use Prim.Native.Nat.{ℕ, _+_, _-_, _*_, _≤_}
+use Prim.Native.Nat.{ℕ, _-_}
 use mathlib.Core.Bool.{true}
-use mathlib.Core.Path.{_≡_, sym, ap, _∙_}
+use mathlib.Core.Path.{_≡_, refl, sym, ap, _∙_}
 use mathlib.Core.List.{List, []}
 use native.Mathlib.Omega.{arith}
+use mathlib.Core.Logic.{⊎-elim}
 use lib.ListN.{length}
+use borrow.Author.Tests.{eq-eqb, ne-eqb}
 use Rattle.units.specs.Limits.{segmentsMax}
 use Rattle.units.specs.declared.Date.{Date}
+use Rattle.units.proofs.Numbers.{eq-or-ne}
+use Rattle.segmentation.specs.Capacity.{topOf}
+use Rattle.contact.specs.declared.Choices.{Choices}
 use Rattle.units.specs.declared.Interval.{Interval}
 use Rattle.units.specs.declared.TxData.{TxData}
 use Rattle.units.specs.declared.Bundle.{Bundle}
 use Rattle.units.proofs.Determined.{Met}
 use Rattle.segmentation.specs.declared.RateSegment.{RateSegment}
 use Rattle.segmentation.specs.declared.DelaySegment.{DelaySegment}
-use Rattle.contact.specs.Record.{ratesOf}
+use Rattle.contact.specs.Record.{ratesOf, editionOf}
+use Rattle.seg.specs.declared.FreeVolume.{FreeVolume}
 use Rattle.seg.specs.declared.Opened.{Opened}
 use Rattle.seg.specs.declared.Booked.{Booked}
 use Rattle.seg.specs.Record.{recordOk}
 use Rattle.seg.specs.Book.{bookOf}
-use Rattle.seg.proofs.Kept.{opened-keeps}
+use Rattle.seg.proofs.Kept.{opened-keeps, Refused, Accepted, book-cases, book-keeps}
+use Rattle.seg.proofs.Second.{opened-edition}
 use Rattle.seg.proofs.FreeVolume.open.Reads as open-reads
 use Rattle.seg.proofs.FreeVolume.dry_run.Reads as dry-run-reads
 use Rattle.seg.proofs.FreeVolume.book.Reads as book-reads
 use Rattle.seg.proofs.FreeVolume.list.Reads as list-reads
 use Rattle.demand.specs.Calls.{State, Promises, Runs, done, dry-run, list, book, logged}
-use Rattle.demand.specs.Instants.{AllClear, Pairwise, AllIn, sizeSum, carried, Demand}
+use Rattle.demand.specs.Instants.{AllClear, Pairwise, AllIn, sizeSum, Demand}
 use Rattle.demand.proofs.Held.{capSum, held-sum}
-use Rattle.demand.proofs.Keeping.{Keeping, book-keeping}
+use Rattle.demand.proofs.Keeping.{Sums, Keeping, book-keeping}
 
 -- the promises of the manager's calls, as src/ has them
 pub promised : Promises
@@ -46,25 +53,64 @@ module _ (P : State → Type 0) (step : (x : State) (at : Date) (b : Bundle) (d 
   run-all x y q (list o p rest) = run-all x y q rest
   run-all x y q (book at b d a p rest) = run-all _ y (step x at b d a (p .1) q) rest
 
+-- no call changes the contact, nor the edition that it names
+pub run-contact : (x y : State) → recordOk (x .manager) ≡ true → Runs promised x y → y .manager .contact ≡ x .manager .contact
+run-contact x y ok runs =
+    run-all (λ z. (recordOk (z .manager) ≡ true) × (z .manager .contact ≡ x .manager .contact))
+    (λ z at b d a is q.
+    rw is
+    (⊎-elim
+    (λ (r : Refused (z .manager) (bookOf (z .manager) at b d)). rw (r .same) q)
+    (λ (k : Accepted (z .manager) at b d (bookOf (z .manager) at b d)). (book-keeps (z .manager) at b d (q .0), ap (λ (m : FreeVolume). m .contact) (k .manager) ∙ q .1))
+    (book-cases (z .manager) at b d (q .0))))
+    x y (ok, refl) runs .1
+
 run-keeps : (x y : State) → Keeping x → Runs promised x y → Keeping y
 run-keeps = run-all Keeping (λ x at b d a is q. book-keeping x q at b d a is)
 
+no-sums : (k r : ℕ) → Sums k r 0 0 0
+no-sums k r =
+    ⊎-elim
+    (λ (two : k ≡ 2). rw (eq-eqb k 2 two) (omega arith, omega arith))
+    (λ (one : k ≡ 2 → ⊥). rw (ne-eqb k 2 one) (omega arith, omega arith))
+    (eq-or-ne k 2)
+
 fresh : (o : Opened) → recordOk (o .manager) ≡ true → Keeping (record { manager = o .manager; log = [] })
 unfolding AllClear Pairwise AllIn capSum sizeSum
-fresh o e = record { ok = e; apart = tt; clear = tt; inside = tt; low = omega arith; near = omega arith }
+fresh o e = record { ok = e; apart = tt; clear = tt; inside = tt; sums = no-sums (editionOf (o .manager .contact)) (topOf (ratesOf (o .manager .contact))) }
 
 keeping-demand : (x : State) → Keeping x → Demand x
 keeping-demand x q =
     let c = x .manager .contact in
     let e = held-sum (ratesOf c) (c .window) (x .log) (q .inside) (q .apart) in
-    record { apart = q .apart; clear = q .clear; inside = q .inside; low = omega (arith, q .low, e); near = omega (arith, q .near, e) }
+    let k = editionOf c in
+    record {
+      apart = q .apart;
+      clear = q .clear;
+      inside = q .inside;
+      first = λ (one : k ≡ 1). rw e (rw (ne-eqb k 2 (λ (z : k ≡ 2). omega arith)) at (q .sums));
+      second = λ (two : k ≡ 2). rw e (rw (eq-eqb k 2 two) at (q .sums));
+    }
 
-pub demand-3 : (w : Interval) (rates : List RateSegment) (m : ℕ) (delays : List DelaySegment) (k : ℕ) (o : Opened) (y : State)
+pub demand-3 : (h : Choices) (w : Interval) (rates : List RateSegment) (m : ℕ) (delays : List DelaySegment) (k : ℕ) (o : Opened) (y : State)
     → length rates ≡ segmentsMax → length delays ≡ segmentsMax
-    → Met (open-reads.Post tt (w, (rates, (m, (delays, (k, tt)))))) o → o .number ≡ 0
+    → Met (open-reads.Post tt (h, (w, (rates, (m, (delays, (k, tt))))))) o → o .number ≡ 0
     → Runs promised (record { manager = o .manager; log = [] }) y
     → Demand y
-demand-3 w rates m delays k o y rate-size delay-size p zero runs =
+demand-3 h w rates m delays k o y rate-size delay-size p zero runs =
     let is = p .1 in
-    let ok : recordOk (o .manager) ≡ true = rw is (opened-keeps w rates m delays k rate-size delay-size (sym (ap (λ (x : Opened). x .number) is) ∙ zero)) in
+    let ok : recordOk (o .manager) ≡ true = rw is (opened-keeps h w rates m delays k rate-size delay-size (sym (ap (λ (x : Opened). x .number) is) ∙ zero)) in
     keeping-demand y (run-keeps _ y (fresh o ok) runs)
+
+-- the edition chosen at the opening is the record's, whatever is called
+pub edition-kept : (h : Choices) (w : Interval) (rates : List RateSegment) (m : ℕ) (delays : List DelaySegment) (k : ℕ) (o : Opened) (y : State)
+    → length rates ≡ segmentsMax → length delays ≡ segmentsMax
+    → Met (open-reads.Post tt (h, (w, (rates, (m, (delays, (k, tt))))))) o → o .number ≡ 0
+    → Runs promised (record { manager = o .manager; log = [] }) y
+    → editionOf (y .manager .contact) ≡ h .edition .0
+edition-kept h w rates m delays k o y rate-size delay-size p zero runs =
+    let is = p .1 in
+    let none = sym (ap (λ (x : Opened). x .number) is) ∙ zero in
+    let ok : recordOk (o .manager) ≡ true = rw is (opened-keeps h w rates m delays k rate-size delay-size none) in
+    let named : editionOf (o .manager .contact) ≡ h .edition .0 = rw is (opened-edition h w rates m delays k rate-size delay-size none) in
+    ap editionOf (run-contact _ y ok runs) ∙ named

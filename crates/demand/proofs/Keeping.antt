@@ -1,58 +1,71 @@
 -- An accepted booking keeps what demand 3 asks, with the sum of the bookings' own capacities in place of their instants'.
-use Prim.Native.Nat.{ℕ, suc, _+_, _-_, _*_, _<_, _≤_}
+use Prim.Native.Nat.{ℕ, suc, _+_, _-_, _≤_}
 use mathlib.Core.Bool.{true}
-use mathlib.Core.Path.{_≡_, sym, ap, _∙_}
+use mathlib.Core.Path.{_≡_}
 use mathlib.Core.List.{List, [], _∷_}
 use mathlib.Core.Logic.{⊎-elim}
 use native.Mathlib.Nat.{mul-suc}
 use native.Mathlib.Omega.{arith}
 use lib.ListN.{length}
 use borrow.Author.Tests.{eq-eqb, ne-eqb}
+use Rattle.units.proofs.Numbers.{eq-or-ne}
 use Rattle.units.specs.declared.Date.{Date}
-use Rattle.units.specs.declared.Interval.{Interval}
 use Rattle.units.specs.declared.TxData.{TxData}
 use Rattle.units.specs.declared.Bundle.{Bundle}
 use Rattle.segmentation.specs.declared.VolumeSegment.{VolumeSegment}
 use Rattle.segmentation.specs.Capacity.{capacity, topOf}
-use Rattle.segmentation.proofs.EndLaws.{Ends}
-use Rattle.contact.specs.Record.{ratesOf}
-use Rattle.free_list.specs.Cut.{listed, listIn, cutOf}
-use Rattle.free_list.specs.Instants.{Clear}
+use Rattle.segmentation.proofs.EndLaws.{Ends, lesser, greater, Near, near-first, near-second}
+use Rattle.contact.specs.Record.{ratesOf, editionOf}
+use Rattle.free_list.specs.Cut.{listed, cutOf}
 use Rattle.free_list.proofs.Offered.{Offered}
 use Rattle.free_list.proofs.CutLaws.{clear-apart, cut-clear, cut-own, offered-inside, offered-ends}
 use Rattle.free_list.proofs.CutList.{listed-in}
-use Rattle.seg.specs.declared.FreeVolume.{FreeVolume}
 use Rattle.seg.specs.declared.Booked.{Booked}
 use Rattle.seg.specs.Record.{recordOk}
 use Rattle.seg.specs.Book.{bookOf}
 use Rattle.seg.proofs.Facts.{facts, found-offered}
 use Rattle.seg.proofs.Kept.{Refused, Accepted, book-cases, book-keeps}
 use Rattle.demand.specs.Calls.{Booking, State, logged}
-use Rattle.demand.specs.Instants.{AllClear, AllApart, Pairwise, AllIn, sizeSum}
+use Rattle.demand.specs.Instants.{AllClear, AllApart, Pairwise, AllIn, sizeSum, Within}
 use Rattle.demand.proofs.Held.{capSum}
+
+-- the lesser of the capacity c and the size v of n bookings falls below the greater by at most r - 1 for each
+abbrev pub Sums : ℕ → ℕ → ℕ → ℕ → ℕ → Type 0
+Sums k r n c v = Within r n (lesser k c v) (greater k c v)
+
+within-add : (r n a b x y : ℕ) → (a ≤ b) × (b ≤ a + (r - 1)) → Within r n x y → Within r (suc n) (a + x) (b + y)
+within-add r n a b x y h q = (omega (arith, h, q), omega (arith, h, q, mul-suc (r - 1) n))
+
+-- one more booking
+sums-add : (k r n c v cs vs : ℕ) → Near k r c v → Sums k r n cs vs → Sums k r (suc n) (c + cs) (v + vs)
+sums-add k r n c v cs vs h q =
+    ⊎-elim
+    (λ (two : k ≡ 2).
+    let q2 : Within r n vs cs = rw (eq-eqb k 2 two) at q in
+    rw (eq-eqb k 2 two) (within-add r n v c vs cs (near-second k r c v two h) q2))
+    (λ (one : k ≡ 2 → ⊥).
+    let q1 : Within r n cs vs = rw (ne-eqb k 2 one) at q in
+    rw (ne-eqb k 2 one) (within-add r n c v cs vs (near-first k r c v one h) q1))
+    (eq-or-ne k 2)
 
 pub record Keeping (x : State) : Type 0 where
   pub ok : recordOk (x .manager) ≡ true
   pub apart : Pairwise (x .log)
   pub clear : AllClear (listed (x .manager .free)) (x .log)
   pub inside : AllIn (x .manager .contact .window) (x .log)
-  pub low : capSum (ratesOf (x .manager .contact)) (x .log) ≤ sizeSum (x .log)
-  pub near : sizeSum (x .log) ≤ capSum (ratesOf (x .manager .contact)) (x .log) + (topOf (ratesOf (x .manager .contact)) - 1) * length (x .log)
-
-near-sum : (k n v c vs cs : ℕ) → v ≤ c + k → vs ≤ cs + k * n → v + vs ≤ (c + cs) + k * suc n
-near-sum k n v c vs cs h q = omega (arith, mul-suc k n)
+  pub sums : Sums (editionOf (x .manager .contact)) (topOf (ratesOf (x .manager .contact))) (length (x .log)) (capSum (ratesOf (x .manager .contact)) (x .log)) (sizeSum (x .log))
 
 -- the bookings are clear of the list that a cut leaves, and apart from what it takes
-module _ (l : List VolumeSegment) (top hi s e v : ℕ) (f : List VolumeSegment) (i : ℕ) (h : Offered l top f i s e v) where
-  log-clear : (log : List Booking) → AllClear f log → AllClear (cutOf l f i s e v) log
+module _ (k : ℕ) (l : List VolumeSegment) (top hi s e v : ℕ) (f : List VolumeSegment) (i : ℕ) (h : Offered k l top f i s e v) where
+  log-clear : (log : List Booking) → AllClear f log → AllClear (cutOf k l f i s e v) log
   unfolding AllClear
   log-clear [] c = tt
-  log-clear (b ∷ log) c = (cut-clear l top hi s e v (b .send .start .0) (b .send .end .0) f i (c .0) h, log-clear log (c .1))
+  log-clear (b ∷ log) c = (cut-clear k l top hi s e v (b .send .start .0) (b .send .end .0) f i (c .0) h, log-clear log (c .1))
 
   log-apart : (log : List Booking) → AllClear f log → AllApart s e log
   unfolding AllClear AllApart
   log-apart [] c = tt
-  log-apart (b ∷ log) c = (clear-apart l top hi s e v (b .send .start .0) (b .send .end .0) f i (c .0) h, log-apart log (c .1))
+  log-apart (b ∷ log) c = (clear-apart k l top hi s e v (b .send .start .0) (b .send .end .0) f i (c .0) h, log-apart log (c .1))
 
 module _ (x : State) (q : Keeping x) (at : Date) (b : Bundle) (d : TxData) (a : Booked) (is : a ≡ bookOf (x .manager) at b d) where
   abbrev next : State
@@ -71,20 +84,20 @@ module _ (x : State) (q : Keeping x) (at : Date) (b : Bundle) (d : TxData) (a : 
       let s = d .send .start .0 in
       let e = d .send .end .0 in
       let v = b .size .0 in
-      let k = facts r (q .ok) in
-      let o = found-offered r k (at .0) v (y .some) (y .place) (d .send) (y .found) in
-      let n : Ends l (topOf l) s v _ e = offered-ends l (topOf l) s e v f (y .place) o .1 in
-      let w = offered-inside l (topOf l) hi s e v f _ (y .place) (k .free) o in
+      let k = editionOf (r .contact) in
+      let fs = facts r (q .ok) in
+      let o = found-offered r fs (at .0) v (y .some) (y .place) (d .send) (y .found) in
+      let n : Ends k l (topOf l) s v _ e = offered-ends k l (topOf l) s e v f (y .place) o .1 in
+      let w = offered-inside k l (topOf l) hi s e v f _ (y .place) (fs .free) o in
       let ok : recordOk (a .manager) ≡ true = rw is (book-keeps r at b d (q .ok)) in
-      let left = listed-in (cutOf l f (y .place) s e v) in
+      let left = listed-in (cutOf k l f (y .place) s e v) in
       rw (eq-eqb (a .number) 0 (y .number))
       (record {
         ok = ok;
-        apart = (log-apart l (topOf l) hi s e v f (y .place) o (x .log) (q .clear), q .apart);
-        clear = rw (y .manager, left) (cut-own l (topOf l) hi s e v f _ (y .place) (k .free) o, log-clear l (topOf l) hi s e v f (y .place) o (x .log) (q .clear));
+        apart = (log-apart k l (topOf l) hi s e v f (y .place) o (x .log) (q .clear), q .apart);
+        clear = rw (y .manager, left) (cut-own k l (topOf l) hi s e v f _ (y .place) (fs .free) o, log-clear k l (topOf l) hi s e v f (y .place) o (x .log) (q .clear));
         inside = rw (y .manager) (w .0, n .forth, w .1, q .inside);
-        low = rw (y .manager) (omega (arith, q .low, n .low));
-        near = rw (y .manager) (near-sum (topOf l - 1) (length (x .log)) v (capacity l s e) (sizeSum (x .log)) (capSum l (x .log)) (n .near) (q .near));
+        sums = rw (y .manager) (sums-add k (topOf l) (length (x .log)) (capacity l s e) v (capSum l (x .log)) (sizeSum (x .log)) (n .near) (q .sums));
       })
 
   pub book-keeping : Keeping next

@@ -2,3 +2,4 @@ pub mod Held
 pub mod Keeping
 pub mod Demand
 pub mod RoomAfter
+pub mod SecondAfter

@@ -1,5 +1,5 @@
 -- What the room is good for, from a fresh opening on: with the exact capacity of the booked instants it is at most the total volume of the
--- pass, and with the booked sizes at most R - 1 more for each accepted booking.
+-- pass, and with the booked sizes too under edition 2, under edition 1 at most R - 1 more for each accepted booking.
 use Prim.Native.Nat.{ℕ, _+_, _-_, _*_, _≤_}
 use mathlib.Core.Bool.{true}
 use mathlib.Core.Path.{_≡_, sym, ap, _∙_}
@@ -17,8 +17,9 @@ use Rattle.units.proofs.Determined.{Met}
 use Rattle.segmentation.specs.declared.RateSegment.{RateSegment}
 use Rattle.segmentation.specs.declared.DelaySegment.{DelaySegment}
 use Rattle.segmentation.specs.Capacity.{topOf}
+use Rattle.contact.specs.declared.Choices.{Choices}
 use Rattle.contact.specs.declared.Contact.{Contact}
-use Rattle.contact.specs.Record.{ratesOf, totalIn}
+use Rattle.contact.specs.Record.{ratesOf, editionOf, totalIn}
 use Rattle.seg.specs.declared.FreeVolume.{FreeVolume}
 use Rattle.seg.specs.declared.Opened.{Opened}
 use Rattle.seg.specs.declared.Booked.{Booked}
@@ -58,7 +59,7 @@ module _ (x : State) (q : Left x) (at : Date) (b : Bundle) (d : TxData) where
           arith,
           ap (λ (c : Contact). capSum (ratesOf c) (record { send = d .send; size = b .size .0 } ∷ x .log)) same,
           ap totalIn same,
-          booked-falls (x .manager) (q .ok) at b d (y .number),
+          booked-falls (x .manager) (q .ok) at b d (y .number) .0,
           q .time,
         );
       })
@@ -73,17 +74,21 @@ fresh-left : (o : Opened) → recordOk (o .manager) ≡ true → Left (record { 
 unfolding capSum
 fresh-left o e = record { ok = e; time = omega (arith, time-total (o .manager) e) }
 
-pub room-after : (w : Interval) (rates : List RateSegment) (m : ℕ) (delays : List DelaySegment) (k : ℕ) (o : Opened) (y : State)
+pub room-after : (h : Choices) (w : Interval) (rates : List RateSegment) (m : ℕ) (delays : List DelaySegment) (k : ℕ) (o : Opened) (y : State)
     → length rates ≡ segmentsMax → length delays ≡ segmentsMax
-    → Met (open-reads.Post tt (w, (rates, (m, (delays, (k, tt)))))) o → o .number ≡ 0
+    → Met (open-reads.Post tt (h, (w, (rates, (m, (delays, (k, tt))))))) o → o .number ≡ 0
     → Runs promised (record { manager = o .manager; log = [] }) y
     → (y .manager .room .0 + carried y ≤ totalIn (y .manager .contact))
-    × (y .manager .room .0 + sizeSum (y .log) ≤ totalIn (y .manager .contact) + (topOf (ratesOf (y .manager .contact)) - 1) * length (y .log))
-room-after w rates m delays k o y rate-size delay-size p zero runs =
-    let ok : recordOk (o .manager) ≡ true = rw (p .1) (opened-keeps w rates m delays k rate-size delay-size (sym (ap (λ (x : Opened). x .number) (p .1)) ∙ zero)) in
+    × (editionOf (y .manager .contact) ≡ 1 → y .manager .room .0 + sizeSum (y .log) ≤ totalIn (y .manager .contact) + (topOf (ratesOf (y .manager .contact)) - 1) * length (y .log))
+    × (editionOf (y .manager .contact) ≡ 2 → y .manager .room .0 + sizeSum (y .log) ≤ totalIn (y .manager .contact))
+room-after h w rates m delays k o y rate-size delay-size p zero runs =
+    let ok : recordOk (o .manager) ≡ true = rw (p .1) (opened-keeps h w rates m delays k rate-size delay-size (sym (ap (λ (x : Opened). x .number) (p .1)) ∙ zero)) in
     let left : Left y = run-left _ y (fresh-left o ok) runs in
-    let three = demand-3 w rates m delays k o y rate-size delay-size p zero runs in
+    let three = demand-3 h w rates m delays k o y rate-size delay-size p zero runs in
     let c = y .manager .contact in
     let e = held-sum (ratesOf c) (c .window) (y .log) (three .inside) (three .apart) in
-    let room = room-time (y .manager) (left .ok) in
-    (omega (arith, room, left .time, e), omega (arith, room, left .time, e, three .near))
+    let room = room-time (y .manager) (left .ok) in (
+      omega (arith, room, left .time, e),
+      λ (one : editionOf c ≡ 1). omega (arith, room, left .time, e, three .first one .1),
+      λ (two : editionOf c ≡ 2). omega (arith, room, left .time, e, three .second two .0),
+    )

@@ -1,6 +1,7 @@
 -- Demand 3: instants are ticks; the accepted send intervals share none with each other or with a listed segment, and what they carry.
-use Prim.Native.Nat.{ℕ, zero, suc, _+_, _-_, _*_, _<_, _≤_}
+use Prim.Native.Nat.{ℕ, zero, suc, _+_, _-_, _*_, _≤_}
 use mathlib.Core.Bool.{Bool, true, false}
+use mathlib.Core.Path.{_≡_}
 use mathlib.Core.List.{List, [], _∷_}
 use lib.Dec.{leb, ltb}
 use lib.ListN.{length}
@@ -10,7 +11,7 @@ use Rattle.segmentation.specs.declared.VolumeSegment.{VolumeSegment}
 use Rattle.segmentation.specs.Capacity.{rateAt, topOf}
 use Rattle.free_list.specs.Instants.{Apart, Clear}
 use Rattle.free_list.specs.Cut.{listed}
-use Rattle.contact.specs.Record.{ratesOf}
+use Rattle.contact.specs.Record.{ratesOf, editionOf}
 use Rattle.demand.specs.Calls.{Booking, State}
 
 -- no booking shares a tick with a listed segment
@@ -55,10 +56,14 @@ carried x =
     let c = x .manager .contact in
     heldOf (ratesOf c) (x .log) (c .window .start .0) (c .window .end .0 - c .window .start .0)
 
--- what demand 3 asks of the record and the bookings; R is the contact's highest rate
+-- a is never above b, and falls below it by at most r - 1 for each of n bookings
+abbrev pub Within : ℕ → ℕ → ℕ → ℕ → Type 0
+Within r n a b = (a ≤ b) × (b ≤ a + (r - 1) * n)
+
+-- what demand 3 asks of the record and the bookings, its last sentence by edition; R is the contact's highest rate
 pub record Demand (x : State) : Type 0 where
   pub apart : Pairwise (x .log)
   pub clear : AllClear (listed (x .manager .free)) (x .log)
   pub inside : AllIn (x .manager .contact .window) (x .log)
-  pub low : carried x ≤ sizeSum (x .log)
-  pub near : sizeSum (x .log) ≤ carried x + (topOf (ratesOf (x .manager .contact)) - 1) * length (x .log)
+  pub first : editionOf (x .manager .contact) ≡ 1 → Within (topOf (ratesOf (x .manager .contact))) (length (x .log)) (carried x) (sizeSum (x .log))
+  pub second : editionOf (x .manager .contact) ≡ 2 → Within (topOf (ratesOf (x .manager .contact))) (length (x .log)) (sizeSum (x .log)) (carried x)

@@ -14,6 +14,7 @@ use Rattle.units.specs.Answer.{offers}
 use Rattle.units.proofs.Determined.{Met}
 use Rattle.segmentation.specs.declared.RateSegment.{RateSegment}
 use Rattle.segmentation.specs.declared.DelaySegment.{DelaySegment}
+use Rattle.contact.specs.declared.Choices.{Choices}
 use Rattle.pseg.specs.declared.PrioritySeg.{PrioritySeg}
 use Rattle.pseg.specs.declared.Opened.{Opened}
 use Rattle.pseg.specs.declared.Booked.{Booked}
@@ -66,6 +67,6 @@ module _ (r : PrioritySeg) (at : Date) (b : Bundle) where
   pub list-not-8 : (l : Listing) → Met (list-reads.Post tt (r, tt)) l → l .number ≡ 8 → ⊥
   list-not-8 l p h = list-never-8 r (sym (ap (λ (x : Listing). x .number) (p .1)) ∙ h)
 
-pub open-not-8 : (w : Interval) (rates : List RateSegment) (m : ℕ) (delays : List DelaySegment) (k : ℕ) (o : Opened)
-    → Met (open-reads.Post tt (w, (rates, (m, (delays, (k, tt)))))) o → o .number ≡ 8 → ⊥
-open-not-8 w rates m delays k o p h = open-never-8 w rates m delays k (sym (ap (λ (x : Opened). x .number) (p .1)) ∙ h)
+pub open-not-8 : (h : Choices) (w : Interval) (rates : List RateSegment) (m : ℕ) (delays : List DelaySegment) (k : ℕ) (o : Opened)
+    → Met (open-reads.Post tt (h, (w, (rates, (m, (delays, (k, tt))))))) o → o .number ≡ 8 → ⊥
+open-not-8 h w rates m delays k o p z = open-never-8 h w rates m delays k (sym (ap (λ (x : Opened). x .number) (p .1)) ∙ z)

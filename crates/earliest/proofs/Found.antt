@@ -9,7 +9,7 @@ use Rattle.units.specs.declared.Bundle.{Bundle}
 use Rattle.units.specs.declared.Offer.{Offer}
 use Rattle.units.specs.Answer.{refused}
 use Rattle.segmentation.specs.declared.End.the-variants.{At}
-use Rattle.contact.specs.Record.{ratesOf}
+use Rattle.contact.specs.Record.{editionOf, ratesOf}
 use Rattle.contact.proofs.Lookup.{contact-answers}
 use Rattle.bookings.specs.declared.Run.{Run}
 use Rattle.bookings.specs.declared.Run.the-variants.{Idle, Going, Sent}
@@ -33,7 +33,7 @@ module _ (r : PrioritySeg) (b : Bundle) where
     pub rule : Orderly (endFrom r b) (r .contact .window .end .0)
     rule =
         let c = facts r ok .contact in
-        end-orderly (ratesOf (r .contact)) (b .size .0) _ _ some (c .some) (c .close)
+        end-orderly (editionOf (r .contact)) (ratesOf (r .contact)) (b .size .0) _ _ some (c .some) (c .close)
 
     module _ (at : Date) where
       -- the dates of a run that is found

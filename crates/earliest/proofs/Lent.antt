@@ -51,9 +51,9 @@ module _ {M : Type 1} (𝓤 : URA M) (H : Heap 𝓤) (A : Atoms 𝓤) (mem : Mem
   lent-booked-earliest κs d n e = told 𝓤 _ _ (λ is zero. book-earliest (m .now) at b (d .now) ok none (sym (is .0) ∙ zero))
 
 -- the lists lent as numbers: the record is the one that they make
-module _ (κs : Lfts 3) (a : Dens κs dry-run-kept-kinds.ps) where
+module _ (κs : Lfts 4) (a : Dens κs dry-run-kept-kinds.ps) where
   abbrev asked : PrioritySeg
-  asked = prioritySegIn (a .0) (a .1 .0 .now) (a .1 .1 .0) (a .1 .1 .1 .0 .now) (a .1 .1 .1 .1 .0) (a .1 .1 .1 .1 .1 .0 .now) (a .1 .1 .1 .1 .1 .1 .0)
+  asked = prioritySegIn (a .1 .1 .1 .1 .1 .1 .1 .1 .1 .0 .now) (a .0) (a .1 .0 .now) (a .1 .1 .0) (a .1 .1 .1 .0 .now) (a .1 .1 .1 .1 .0) (a .1 .1 .1 .1 .1 .0 .now) (a .1 .1 .1 .1 .1 .1 .0)
 
   abbrev at : Date
   at = a .1 .1 .1 .1 .1 .1 .1 .0
@@ -65,9 +65,9 @@ module _ (κs : Lfts 3) (a : Dens κs dry-run-kept-kinds.ps) where
       → (Earliest asked at bundle o) × (Rest asked bundle o)
   lent-earliest-kept ok none fits o p = rw (p .1) (dry-earliest asked at bundle ok none fits)
 
-module _ (κs : Lfts 5) (a : Dens κs book-kept-kinds.ps) where
+module _ (κs : Lfts 6) (a : Dens κs book-kept-kinds.ps) where
   abbrev held : PrioritySeg
-  held = prioritySegIn (a .0) (a .1 .0 .now) (a .1 .1 .0) (a .1 .1 .1 .0 .now) (a .1 .1 .1 .1 .0) (a .1 .1 .1 .1 .1 .0 .now) (a .1 .1 .1 .1 .1 .1 .0 .now)
+  held = prioritySegIn (a .1 .1 .1 .1 .1 .1 .1 .1 .1 .1 .0 .now) (a .0) (a .1 .0 .now) (a .1 .1 .0) (a .1 .1 .1 .0 .now) (a .1 .1 .1 .1 .0) (a .1 .1 .1 .1 .1 .0 .now) (a .1 .1 .1 .1 .1 .1 .0 .now)
 
   abbrev stated : TxData
   stated = datesIn (a .1 .1 .1 .1 .1 .1 .1 .1 .1 .0 .now)

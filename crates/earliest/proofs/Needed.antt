@@ -1,5 +1,5 @@
 -- Why 02 leaves out records with an empty segment: calls on a fresh contact reach two records on which the answer is not the earliest place.
--- Contact [0,2), rate 2, delay 0. All else that R-8 asks holds of them.
+-- Contact [0,2), rate 2, delay 0, edition 1. All else that R-8 asks holds of them.
 use Prim.Native.Nat.{ℕ, zero, suc, _<_}
 use mathlib.Core.Bool.{true}
 use mathlib.Core.Path.{_≡_, refl, ap}
@@ -21,6 +21,7 @@ use Rattle.segmentation.specs.declared.End.the-variants.{At}
 use Rattle.segmentation.specs.Capacity.{rateAt, capOf}
 use Rattle.segmentation.specs.End.{reachOf as tickOf, closeOf, endOf}
 use Rattle.segmentation.specs.Delay.{fromDate, delaysOf}
+use Rattle.contact.specs.Choices.{ported, choicesOk}
 use Rattle.contact.specs.Segments.{zeroDelay, spans, covers, delaysOk, noVolume, noDelay}
 use Rattle.contact.specs.Open.{totalOf, volumeOk, contactOf, openContact}
 use Rattle.contact.specs.Record.{contactOk}
@@ -49,7 +50,7 @@ delays = padded segmentsMax zeroDelay (record { start = date 0; end = date 2; de
 
 -- the contact's record with this list; a segment's level is one above its value
 abbrev listing : List BookingSegment → PrioritySeg
-listing f = record { contact = contactOf (interval 0 2) rates 1 delays 1; bookings = listIn f }
+listing f = record { contact = contactOf ported (interval 0 2) rates 1 delays 1; bookings = listIn f }
 
 -- the record after a booking asked at t, of size v and priority p, sent from s to e
 abbrev booked : PrioritySeg → ℕ → ℕ → ℕ → ℕ → ℕ → PrioritySeg
@@ -70,7 +71,7 @@ offering = listing (segment 0 1 2 ∷ segment 1 1 1 ∷ segment 1 2 2 ∷ [])
 -- opened fresh; size 1 at 1, priority 0, sends 1,1; then size 2 at 0 and size 2 at 1, priority 1, send 0,1 and 1,2
 abbrev Reached : Type 0
 Reached =
-    (openOf (interval 0 2) rates 1 delays 1 .manager ≡ listing (segment 0 2 0 ∷ []))
+    (openOf ported (interval 0 2) rates 1 delays 1 .manager ≡ listing (segment 0 2 0 ∷ []))
     × (booked (listing (segment 0 2 0 ∷ [])) 1 1 0 1 1 ≡ hiding)
     × (booked hiding 0 2 1 0 1 ≡ half)
     × (booked half 1 2 1 1 2 ≡ offering)
@@ -92,7 +93,7 @@ abbrev Figures : Type 0
 Figures = (endFrom hiding (bundle 4 0) 0 ≡ At (date 2)) × (valueAt hiding 0 ≡ negsuc 0) × (valueAt hiding 1 ≡ negsuc 0) × (valueAt offering 1 ≡ pos 1)
 
 pub computed : Reached × Answers × Figures
-unfolding both allOf windowOk loadOk bundleOk sameDates offers padded rateAt capOf tickOf closeOf endOf fromDate delaysOf spans covers delaysOk noVolume noDelay totalOf volumeOk openContact contactOk follows coverOk levelAt noBooking reachOf beginOf brokenOf freeOf turnOf searchOf partsOf setOf setBookings bookingsOk recordOk openOf dryRunOf bookOf
+unfolding both allOf windowOk loadOk bundleOk sameDates offers padded rateAt capOf tickOf closeOf endOf fromDate delaysOf spans covers delaysOk noVolume noDelay totalOf volumeOk choicesOk openContact contactOk follows coverOk levelAt noBooking reachOf beginOf brokenOf freeOf turnOf searchOf partsOf setOf setBookings bookingsOk recordOk openOf dryRunOf bookOf
 computed = ((refl, refl, refl, refl), ((refl, refl), refl, (refl, refl), refl), (refl, refl, refl, refl))
 
 answers : Answers

@@ -17,6 +17,7 @@ use Rattle.units.proofs.Logic.{unless-keeps}
 use Rattle.units.proofs.Loads.{asked-load, load}
 use Rattle.segmentation.specs.declared.RateSegment.{RateSegment}
 use Rattle.segmentation.specs.declared.DelaySegment.{DelaySegment}
+use Rattle.contact.specs.declared.Choices.{Choices}
 use Rattle.contact.specs.declared.Opened.{Opened as ContactOpened}
 use Rattle.contact.specs.Open.{openContact}
 use Rattle.contact.proofs.Refusals.{opening-keeps}
@@ -81,8 +82,8 @@ list-never-8 r = unless-keeps (λ (x : Listing). Not8 (x .number)) (recordOk r) 
 opened-never-8 : (w : Interval) (o : ContactOpened) → Not8 (o .number) → Not8 (openedOf w o .number)
 opened-never-8 w o n = unless-keeps (λ (x : Opened). Not8 (x .number)) (eqb (o .number) 0) _ _ (λ f. n) (λ f h. omega arith)
 
-pub open-never-8 : (w : Interval) (rates : List RateSegment) (m : ℕ) (delays : List DelaySegment) (k : ℕ) → Not8 (openOf w rates m delays k .number)
+pub open-never-8 : (h : Choices) (w : Interval) (rates : List RateSegment) (m : ℕ) (delays : List DelaySegment) (k : ℕ) → Not8 (openOf h w rates m delays k .number)
 unfolding openOf
-open-never-8 w rates m delays k =
-    opened-never-8 w (openContact w rates m delays k)
-    (opening-keeps w rates m delays k (λ (o : ContactOpened). Not8 (o .number)) (λ h. omega arith) (λ h. omega arith) (λ h. omega arith) (λ h. omega arith) (λ p h. omega arith))
+open-never-8 h w rates m delays k =
+    opened-never-8 w (openContact h w rates m delays k)
+    (opening-keeps h w rates m delays k (λ (o : ContactOpened). Not8 (o .number)) (λ z. omega arith) (λ z. omega arith) (λ z. omega arith) (λ z. omega arith) (λ z. omega arith) (λ p z. omega arith))

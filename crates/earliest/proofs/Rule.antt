@@ -1,4 +1,4 @@
--- All that is asked of an end rule, in one law, and that edition 1's keeps it.
+-- All that is asked of an end rule, in one law, and that the rule of every edition keeps it.
 use Prim.Native.Nat.{ℕ, _<_, _≤_}
 use mathlib.Core.Path.{_≡_, refl, sym, _∙_}
 use mathlib.Core.List.{List, [], _∷_}
@@ -33,16 +33,16 @@ unfolding closeOf
 close-any [] lo hi s h e = absurd (omega arith)
 close-any (x ∷ l) lo hi s h e = e
 
-pub end-orderly : (l : List VolumeSegment) (v lo hi : ℕ) → 0 < v → lo < hi → closeOf lo l ≡ hi → Orderly (λ (s : ℕ). endOf l s v hi) hi
-end-orderly l v lo hi pos some close =
+pub end-orderly : (k : ℕ) (l : List VolumeSegment) (v lo hi : ℕ) → 0 < v → lo < hi → closeOf lo l ≡ hi → Orderly (λ (s : ℕ). endOf k l s v hi) hi
+end-orderly k l v lo hi pos some close =
     record {
-      forth = λ s e z. end-ends l s v pos hi e z .forth;
-      by = λ s e z. end-ends l s v pos hi e z .by;
+      forth = λ s e z. end-ends l s v pos k hi e z .forth;
+      by = λ s e z. end-ends l s v pos k hi e z .by;
       sooner = λ s u e le z.
           ⊎-elim
-          (λ (n : endOf l s v hi ≡ None).
+          (λ (n : endOf k l s v hi ≡ None).
           let last : closeOf s l ≤ hi = omega (arith, close-any l lo hi s some close) in
-          absurd (no-end e (sym (end-none-start l s v hi pos last n u hi le) ∙ z)))
-          (λ (q : (d : Date) × (endOf l s v hi ≡ At d)). (q .0, (q .1, end-monotone-start l s u v le hi hi (q .0) e (q .1) z)))
-          (end-cases (endOf l s v hi));
+          absurd (no-end e (sym (end-none-start k l s v hi pos last n u hi le) ∙ z)))
+          (λ (q : (d : Date) × (endOf k l s v hi ≡ At d)). (q .0, (q .1, end-monotone-start l s u v le k hi hi (q .0) e (q .1) z)))
+          (end-cases (endOf k l s v hi));
     }

@@ -11,16 +11,15 @@ use Rattle.units.specs.declared.Bundle.{Bundle}
 use Rattle.units.specs.declared.Offer.{Offer}
 use Rattle.units.specs.Logic.{allOf}
 use Rattle.segmentation.specs.declared.End.{End}
-use Rattle.segmentation.specs.End.{endOf}
-use Rattle.contact.specs.Record.{ratesOf}
+use Rattle.contact.specs.Record.{endRule}
 use Rattle.bookings.specs.declared.BookingSegment.{BookingSegment}
 use Rattle.bookings.specs.Listed.{valueOf, levelAt, listed}
 use Rattle.pseg.specs.declared.PrioritySeg.{PrioritySeg}
 use Rattle.earliest.specs.Start.{Start, Least}
 
--- 01's end rule from a tick, for the bundle's size; its deadline is the window's end
+-- the end rule of the record's edition from a tick, for the bundle's size; its deadline is the window's end
 abbrev pub endFrom : PrioritySeg → Bundle → ℕ → End
-endFrom r b s = endOf (ratesOf (r .contact)) s (b .size .0) (r .contact .window .end .0)
+endFrom r b s = endRule (r .contact) s (b .size .0) (r .contact .window .end .0)
 
 -- the value that is booked at a tick, -1 to 127: that of the listed segment which holds it (-1 where none does, which is outside the window)
 abbrev pub valueAt : PrioritySeg → ℕ → ℤ

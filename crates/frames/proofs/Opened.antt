@@ -7,8 +7,6 @@ use native.Mathlib.Omega.{arith}
 use lib.ListN.{length, length-append, length-replicate}
 use Rattle.units.specs.Limits.{segmentsMax}
 use Rattle.units.specs.Arrays.{padded}
-use Rattle.segmentation.specs.declared.RateSegment.{RateSegment}
-use Rattle.segmentation.specs.declared.DelaySegment.{DelaySegment}
 use Rattle.seg.specs.Record.{recordOk as freeOk}
 use Rattle.seg.proofs.Kept.{opened-keeps as free-keeps}
 use Rattle.pseg.specs.Record.{recordOk as priorityOk}
@@ -17,7 +15,7 @@ use Rattle.poly_seg.specs.Record.{recordOk as polynomialOk}
 use Rattle.poly_seg.proofs.Kept.{opened-keeps as polynomial-keeps}
 use Rattle.legacy.specs.Record.{recordOk as queueOk}
 use Rattle.legacy.proofs.Kept.{opened-ok}
-use Rattle.layout.specs.Segments.{rows, rateAt, delayAt, noRate, noDelay, ratesAt, delaysAt}
+use Rattle.layout.specs.Segments.{rateAt, delayAt, noRate, noDelay, ratesAt, delaysAt}
 use Rattle.layout.specs.Opening.{openingOf}
 use Rattle.layout.specs.Polynomial.{polynomialOf}
 use Rattle.layout.specs.Queue.{queueOf}
@@ -40,11 +38,11 @@ module _ (line : List ℕ) (at n : ℕ) where
 module _ (line : List ℕ) where
   pub free-opened : freeOpened (openingOf line) .number ≡ 0 → freeOk (freeOpened (openingOf line) .manager) ≡ true
   unfolding freeOpened openingOf
-  free-opened z = free-keeps _ _ _ _ _ (rates-size line _ _) (delays-size line _ _) z
+  free-opened z = free-keeps _ _ _ _ _ _ (rates-size line _ _) (delays-size line _ _) z
 
   pub priority-opened : priorityOpened (openingOf line) .number ≡ 0 → priorityOk (priorityOpened (openingOf line) .manager) ≡ true
   unfolding priorityOpened openingOf
-  priority-opened z = priority-keeps _ _ _ _ _ z (rates-size line _ _) (delays-size line _ _)
+  priority-opened z = priority-keeps _ _ _ _ _ _ z (rates-size line _ _) (delays-size line _ _)
 
   pub polynomial-opened : polynomialOpened (polynomialOf line) .number ≡ 0 → polynomialOk (polynomialOpened (polynomialOf line) .manager) ≡ true
   unfolding polynomialOpened polynomialOf

@@ -2,6 +2,7 @@
 use Prim.Native.Nat.{ℕ}
 use mathlib.Core.List.{List}
 use Rattle.units.specs.Logic.{unless}
+use Rattle.contact.specs.Choices.{ported}
 use Rattle.seg.specs.declared.Opened.{Opened as FreeOpened}
 use Rattle.seg.specs.Open.{openOf as openFree}
 use Rattle.pseg.specs.declared.Opened.{Opened as PriorityOpened}
@@ -27,7 +28,7 @@ noFrame h = refusedCall h 255
 
 -- the free-volume opening with the frame's figures
 unfoldable pub freeOpened : Opening → FreeOpened
-freeOpened f = openFree (f .window) (f .rates) (f .«rate_count») (f .delays) (f .«delay_count»)
+freeOpened f = openFree ported (f .window) (f .rates) (f .«rate_count») (f .delays) (f .«delay_count»)
 
 -- 01, and a refused opening keeps the old record
 unfoldable pub freeFrame : List ℕ → Held → Done
@@ -37,7 +38,7 @@ freeFrame line h =
 
 -- the priority opening with the same figures
 unfoldable pub priorityOpened : Opening → PriorityOpened
-priorityOpened f = openPriority (f .window) (f .rates) (f .«rate_count») (f .delays) (f .«delay_count»)
+priorityOpened f = openPriority ported (f .window) (f .rates) (f .«rate_count») (f .delays) (f .«delay_count»)
 
 -- 02, likewise
 unfoldable pub priorityFrame : List ℕ → Held → Done

@@ -23,7 +23,8 @@ pub fn free(line: &[u8]) -> seg::Opened
     let rate_count = f.rate_count;
     let delays = f.delays;
     let delay_count = f.delay_count;
-    FreeVolume::open(window, rates, rate_count, delays, delay_count)
+    let choices = contact::Choices::ported();
+    FreeVolume::open(choices, window, rates, rate_count, delays, delay_count)
 }
 
 pub fn priority(line: &[u8]) -> pseg::Opened
@@ -35,7 +36,8 @@ pub fn priority(line: &[u8]) -> pseg::Opened
     let rate_count = f.rate_count;
     let delays = f.delays;
     let delay_count = f.delay_count;
-    PrioritySeg::open(window, rates, rate_count, delays, delay_count)
+    let choices = contact::Choices::ported();
+    PrioritySeg::open(choices, window, rates, rate_count, delays, delay_count)
 }
 
 pub fn polynomial(line: &[u8]) -> poly_seg::Opened

@@ -49,61 +49,61 @@ kept-in l n hi f some few q =
       unused = unused-padded listedMax zeroVolume noVolume f (length f) refl zero-unused;
     }
 
-module _ (l : List VolumeSegment) (r : FreeList) (i s e v : ℕ) where
+module _ (k : ℕ) (l : List VolumeSegment) (r : FreeList) (i s e v : ℕ) where
   abbrev left : List VolumeSegment
-  left = cutOf l (listed r) i s e v
+  left = cutOf k l (listed r) i s e v
 
   -- the segment that is cut
   abbrev was : VolumeSegment
   was = getD (listed r) i zeroVolume
 
-  pub cut-cases : ((length left ≤ listedMax) × (cutList l r i s e v ≡ cutAnswer 0 (listIn left) (was .volume .0) (roomOf (leftOf l was s e v []))))
-      ⊎ (cutList l r i s e v ≡ cutAnswer 10 r 0 0)
+  pub cut-cases : ((length left ≤ listedMax) × (cutList k l r i s e v ≡ cutAnswer 0 (listIn left) (was .volume .0) (roomOf (leftOf k l was s e v []))))
+      ⊎ (cutList k l r i s e v ≡ cutAnswer 10 r 0 0)
   cut-cases =
       ⊎-elim
-      (λ (h : length left ≤ listedMax). inl (h, cut-done l r i s e v h))
-      (λ (h : listedMax < length left). inr (cut-full l r i s e v h))
+      (λ (h : length left ≤ listedMax). inl (h, cut-done k l r i s e v h))
+      (λ (h : listedMax < length left). inr (cut-full k l r i s e v h))
       (le-or-lt (length left) listedMax)
 
   -- the number is 0 or 10
-  pub cut-number : (cutList l r i s e v .number ≡ 0) ⊎ (cutList l r i s e v .number ≡ 10)
+  pub cut-number : (cutList k l r i s e v .number ≡ 0) ⊎ (cutList k l r i s e v .number ≡ 10)
   cut-number = ⊎-elim (λ h. inl (ap (λ (x : Cut). x .number) (h .1))) (λ h. inr (ap (λ (x : Cut). x .number) h)) cut-cases
 
   -- a refusal hands the list back as it came
-  pub cut-refused : (cutList l r i s e v .number ≡ 0 → ⊥) → cutList l r i s e v .list ≡ r
+  pub cut-refused : (cutList k l r i s e v .number ≡ 0 → ⊥) → cutList k l r i s e v .list ≡ r
   cut-refused n =
       ⊎-elim
       (λ h. absurd (n (ap (λ (x : Cut). x .number) (h .1))))
       (λ h. ap (λ (x : Cut). x .list) h)
       cut-cases
 
-  module _ (z : cutList l r i s e v .number ≡ 0) where
-    cut-zero : (length left ≤ listedMax) × (cutList l r i s e v .list ≡ listIn left)
+  module _ (z : cutList k l r i s e v .number ≡ 0) where
+    cut-zero : (length left ≤ listedMax) × (cutList k l r i s e v .list ≡ listIn left)
     cut-zero =
         ⊎-elim
         (λ h. (h .0, ap (λ (x : Cut). x .list) (h .1)))
-        (λ (h : cutList l r i s e v ≡ cutAnswer 10 r 0 0). absurd (omega (arith, ap (λ (x : Cut). x .number) h)))
+        (λ (h : cutList k l r i s e v ≡ cutAnswer 10 r 0 0). absurd (omega (arith, ap (λ (x : Cut). x .number) h)))
         cut-cases
 
     pub cut-few : length left ≤ listedMax
     cut-few = cut-zero .0
 
     -- what is listed is the cut of what was listed
-    pub cut-list : cutList l r i s e v .list ≡ listIn left
+    pub cut-list : cutList k l r i s e v .list ≡ listIn left
     cut-list = cut-zero .1
 
-    pub cut-lists : listed (cutList l r i s e v .list) ≡ left
+    pub cut-lists : listed (cutList k l r i s e v .list) ≡ left
     cut-lists = ap listed cut-list ∙ listed-in left
 
-    pub cut-kept : (top n hi : ℕ) → Listed l n hi (listed r) → Offered l top (listed r) i s e v → Kept l n hi (cutList l r i s e v .list)
+    pub cut-kept : (top n hi : ℕ) → Listed l n hi (listed r) → Offered k l top (listed r) i s e v → Kept l n hi (cutList k l r i s e v .list)
     cut-kept top n hi q h =
-        let at = offered-at l top (listed r) i s e v h .0 in
-        rw cut-list (kept-in l n hi left (cut-some l top hi s e v (listed r) i (omega (arith, at))) cut-few (cut-listed l top hi s e v (listed r) n i q h))
+        let at = offered-at k l top (listed r) i s e v h .0 in
+        rw cut-list (kept-in l n hi left (cut-some k l top hi s e v (listed r) i (omega (arith, at))) cut-few (cut-listed k l top hi s e v (listed r) n i q h))
 
   -- an offer of the record's list is one that `cut` takes
-  pub offered-inside-list : (top : ℕ) → r .count ≤ listedMax → allOf noVolume (drop (r .count) (r .segments)) ≡ true → Offered l top (listed r) i s e v → Inside r i v
+  pub offered-inside-list : (top : ℕ) → r .count ≤ listedMax → allOf noVolume (drop (r .count) (r .segments)) ≡ true → Offered k l top (listed r) i s e v → Inside r i v
   offered-inside-list top few unused h =
-      let o = offered-at l top (listed r) i s e v h in
+      let o = offered-at k l top (listed r) i s e v h in
       let lt : i < r .count = omega (arith, simp length-take at (o .0)) in
       record {
         few = few;

@@ -10,3 +10,4 @@ pub mod CutList
 pub mod CutRoom
 pub mod Unique
 pub mod ByChoice
+pub mod Second

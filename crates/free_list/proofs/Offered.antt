@@ -112,31 +112,31 @@ module _ (E : Rule) (l : List VolumeSegment) (hi t v : ℕ) (send : Interval) wh
   offer-after f n i q h = place-get (Picked E t v send) f i (offer-picked f n i q h) .late
 
 -- the laws of an end rule from a date on: r is the highest rate
-pub record Laws (E : Rule) (l : List VolumeSegment) (lo r : ℕ) : Type 0 where
-  pub ends : (s v d : ℕ) (e : Date) → lo ≤ s → 0 < v → E s v d ≡ ends-at e → Ends l r s v d (e .0)
+pub record Laws (k : ℕ) (E : Rule) (l : List VolumeSegment) (lo r : ℕ) : Type 0 where
+  pub ends : (s v d : ℕ) (e : Date) → lo ≤ s → 0 < v → E s v d ≡ ends-at e → Ends k l r s v d (e .0)
 
--- the exact rule has them
-pub exact-laws : (l : List VolumeSegment) (lo : ℕ) → Laws (endOf l) l lo (topOf l)
-exact-laws l lo = record { ends = λ s v d e h p z. end-ends l s v p d e z }
+-- the exact rule of each edition has them
+pub exact-laws : (k : ℕ) (l : List VolumeSegment) (lo : ℕ) → Laws k (endOf k l) l lo (topOf l)
+exact-laws k l lo = record { ends = λ s v d e h p z. end-ends l s v p k d e z }
 
 -- the segment has the room, and the send interval is in it
-pub record Here (l : List VolumeSegment) (r : ℕ) (g : VolumeSegment) (s e v : ℕ) : Type 0 where
+pub record Here (k : ℕ) (l : List VolumeSegment) (r : ℕ) (g : VolumeSegment) (s e v : ℕ) : Type 0 where
   pub from : g .start .0 ≤ s
   pub room : v ≤ g .volume .0
-  pub ends : Ends l r s v (g .end .0) e
+  pub ends : Ends k l r s v (g .end .0) e
 
-abbrev pub Offered : List VolumeSegment → ℕ → List VolumeSegment → ℕ → ℕ → ℕ → ℕ → Type 0
-Offered l r f i s e v = AtPlace (λ g. Here l r g s e v) f i
+abbrev pub Offered : ℕ → List VolumeSegment → ℕ → List VolumeSegment → ℕ → ℕ → ℕ → ℕ → Type 0
+Offered k l r f i s e v = AtPlace (λ g. Here k l r g s e v) f i
 
-pub offer-at : (E : Rule) (l : List VolumeSegment) (lo hi r t v : ℕ) (send : Interval) → Laws E l lo r → 0 < v
+pub offer-at : (k : ℕ) (E : Rule) (l : List VolumeSegment) (lo hi r t v : ℕ) (send : Interval) → Laws k E l lo r → 0 < v
     → (f : List VolumeSegment) (n i : ℕ) → Listed l n hi f → lo ≤ n → offerOf E f t v ≡ At i send
-    → Offered l r f i (send .start .0) (send .end .0) v
-offer-at E l lo hi r t v send laws pos f n i q le h =
-    listed-at (Picked E t v send) (λ g. Here l r g (send .start .0) (send .end .0) v) l n hi f i
+    → Offered k l r f i (send .start .0) (send .end .0) v
+offer-at k E l lo hi r t v send laws pos f n i q le h =
+    listed-at (Picked E t v send) (λ g. Here k l r g (send .start .0) (send .end .0) v) l n hi f i
     (λ g a b p. record { from = p .from; room = p .room; ends = laws .ends _ _ _ _ (omega (arith, p .from)) pos (p .ends) })
     q (offer-picked E l hi t v send f n i q h)
 
 -- the place is listed, and its segment makes the offer
-pub offered-at : (l : List VolumeSegment) (r : ℕ) (f : List VolumeSegment) (i s e v : ℕ) → Offered l r f i s e v
-    → (i < length f) × (Here l r (getD f i zeroVolume) s e v)
-offered-at l r f i s e v h = (place-lt (λ g. Here l r g s e v) f i h, place-get (λ g. Here l r g s e v) f i h)
+pub offered-at : (k : ℕ) (l : List VolumeSegment) (r : ℕ) (f : List VolumeSegment) (i s e v : ℕ) → Offered k l r f i s e v
+    → (i < length f) × (Here k l r (getD f i zeroVolume) s e v)
+offered-at k l r f i s e v h = (place-lt (λ g. Here k l r g s e v) f i h, place-get (λ g. Here k l r g s e v) f i h)

@@ -59,43 +59,43 @@ padded-two {A} m z l i x y lt room =
     (set-append-left (take (suc i) l) (y ∷ (d ++ zs)) i x len ∙ rw head (simp append-assoc))
 
 -- the cut list, around the place that is cut
-cut-at : (l f : List VolumeSegment) (i s e v : ℕ) → i < length f
-    → cutOf l f i s e v ≡ take i f ++ leftOf l (getD f i zeroVolume) s e v (drop (suc i) f)
+cut-at : (k : ℕ) (l f : List VolumeSegment) (i s e v : ℕ) → i < length f
+    → cutOf k l f i s e v ≡ take i f ++ leftOf k l (getD f i zeroVolume) s e v (drop (suc i) f)
 unfolding cutOf
-cut-at l [] i s e v h = absurd (omega arith)
-cut-at l (g ∷ f) zero s e v h = refl
-cut-at l (g ∷ f) (suc i) s e v h = ap (λ (x : List VolumeSegment). g ∷ x) (cut-at l f i s e v (omega arith))
+cut-at k l [] i s e v h = absurd (omega arith)
+cut-at k l (g ∷ f) zero s e v h = refl
+cut-at k l (g ∷ f) (suc i) s e v h = ap (λ (x : List VolumeSegment). g ∷ x) (cut-at k l f i s e v (omega arith))
 
 -- The cut list in each of its three ways, and how long it is in two.
-module _ (l f : List VolumeSegment) (i s e v : ℕ) (lt : i < length f) where
+module _ (k : ℕ) (l f : List VolumeSegment) (i s e v : ℕ) (lt : i < length f) where
   abbrev g : VolumeSegment
   g = getD f i zeroVolume
 
   one-length : (x : VolumeSegment) → length (take i f ++ (x ∷ drop (suc i) f)) ≡ length f
   one-length x = simp (length-append, length-take, length-drop) (omega arith)
 
-  pub cut-start : g .start .0 ≡ s → cutOf l f i s e v ≡ take i f ++ (restOf g e v ∷ drop (suc i) f)
-  cut-start h = cut-at l f i s e v lt ∙ ap (λ (k : List VolumeSegment). take i f ++ k) (left-start l g s e v (drop (suc i) f) h)
+  pub cut-start : g .start .0 ≡ s → cutOf k l f i s e v ≡ take i f ++ (restOf k l g e v ∷ drop (suc i) f)
+  cut-start h = cut-at k l f i s e v lt ∙ ap (λ (x : List VolumeSegment). take i f ++ x) (left-start k l g s e v (drop (suc i) f) h)
 
   module _ (h : g .start .0 ≡ s → ⊥) where
-    pub cut-flat : s ≡ e → cutOf l f i s e v ≡ take i f ++ (stretchOf l (g .start .0) s ∷ drop (suc i) f)
-    cut-flat k = cut-at l f i s e v lt ∙ ap (λ (k : List VolumeSegment). take i f ++ k) (left-flat l g s e v (drop (suc i) f) h k)
+    pub cut-flat : s ≡ e → cutOf k l f i s e v ≡ take i f ++ (stretchOf l (g .start .0) s ∷ drop (suc i) f)
+    cut-flat q = cut-at k l f i s e v lt ∙ ap (λ (x : List VolumeSegment). take i f ++ x) (left-flat k l g s e v (drop (suc i) f) h q)
 
     pub cut-two : (s ≡ e → ⊥)
-        → cutOf l f i s e v ≡ take i f ++ (stretchOf l (g .start .0) s ∷ (stretchOf l e (g .end .0) ∷ drop (suc i) f))
-    cut-two k = cut-at l f i s e v lt ∙ ap (λ (k : List VolumeSegment). take i f ++ k) (left-two l g s e v (drop (suc i) f) h k)
+        → cutOf k l f i s e v ≡ take i f ++ (stretchOf l (g .start .0) s ∷ (stretchOf l e (g .end .0) ∷ drop (suc i) f))
+    cut-two q = cut-at k l f i s e v lt ∙ ap (λ (x : List VolumeSegment). take i f ++ x) (left-two k l g s e v (drop (suc i) f) h q)
 
-    pub cut-two-length : (s ≡ e → ⊥) → length (cutOf l f i s e v) ≡ suc (length f)
-    cut-two-length k = ap length (cut-two k) ∙ simp (length-append, length-take, length-drop) (omega arith)
+    pub cut-two-length : (s ≡ e → ⊥) → length (cutOf k l f i s e v) ≡ suc (length f)
+    cut-two-length q = ap length (cut-two q) ∙ simp (length-append, length-take, length-drop) (omega arith)
 
 -- The two answers of a cut.
-module _ (l : List VolumeSegment) (r : FreeList) (i s e v : ℕ) where
-  pub cut-done : length (cutOf l (listed r) i s e v) ≤ listedMax
-      → cutList l r i s e v ≡ cutAnswer 0 (listIn (cutOf l (listed r) i s e v)) (getD (listed r) i zeroVolume .volume .0) (roomOf (leftOf l (getD (listed r) i zeroVolume) s e v []))
+module _ (k : ℕ) (l : List VolumeSegment) (r : FreeList) (i s e v : ℕ) where
+  pub cut-done : length (cutOf k l (listed r) i s e v) ≤ listedMax
+      → cutList k l r i s e v ≡ cutAnswer 0 (listIn (cutOf k l (listed r) i s e v)) (getD (listed r) i zeroVolume .volume .0) (roomOf (leftOf k l (getD (listed r) i zeroVolume) s e v []))
   unfolding cutList
   cut-done h = unless-go _ _ _ (le-leb _ _ h)
 
-  pub cut-full : listedMax < length (cutOf l (listed r) i s e v) → cutList l r i s e v ≡ cutAnswer 10 r 0 0
+  pub cut-full : listedMax < length (cutOf k l (listed r) i s e v) → cutList k l r i s e v ≡ cutAnswer 10 r 0 0
   unfolding cutList
   cut-full h = unless-stop _ _ _ (lt-leb _ _ h)
 
@@ -103,7 +103,7 @@ made : (a b : List VolumeSegment) (n m off on to : ℕ) → a ≡ b → n ≡ m 
 made a b n m off on to h k j = rw (h, k, j)
 
 -- The stores of a cut in a record are the cut of its list.
-module _ (l : List VolumeSegment) (r : FreeList) (i s e v : ℕ) (size : length (r .segments) ≡ listedMax) (q : Inside r i v) where
+module _ (k : ℕ) (l : List VolumeSegment) (r : FreeList) (i s e v : ℕ) (size : length (r .segments) ≡ listedMax) (q : Inside r i v) where
   few : r .count ≤ listedMax
   few = q .few
 
@@ -127,54 +127,54 @@ module _ (l : List VolumeSegment) (r : FreeList) (i s e v : ℕ) (size : length 
   was = getD (listed r) i zeroVolume
 
   abbrev put : ℕ
-  put = roomOf (leftOf l was s e v [])
+  put = roomOf (leftOf k l was s e v [])
 
-  stored-is : (x : VolumeSegment) (on : ℕ) → cutOf l (listed r) i s e v ≡ take i (listed r) ++ (x ∷ drop (suc i) (listed r)) → on ≡ put
-      → leftIn (set (r .segments) i x) (r .count) (was .volume .0) on ≡ cutList l r i s e v
+  stored-is : (x : VolumeSegment) (on : ℕ) → cutOf k l (listed r) i s e v ≡ take i (listed r) ++ (x ∷ drop (suc i) (listed r)) → on ≡ put
+      → leftIn (set (r .segments) i x) (r .count) (was .volume .0) on ≡ cutList k l r i s e v
   stored-is x on h j =
-      let len : length (cutOf l (listed r) i s e v) ≡ length (listed r) = ap length h ∙ one-length l (listed r) i s e v in-list x in
+      let len : length (cutOf k l (listed r) i s e v) ≡ length (listed r) = ap length h ∙ one-length k l (listed r) i s e v in-list x in
       made _ _ _ _ _ _ _ (ap (λ (a : List VolumeSegment). set a i x) whole ∙ padded-set listedMax zeroVolume (listed r) i x in-list ∙ ap (padded listedMax zeroVolume) (sym h))
       (omega (arith, len, listed-length)) j
-      ∙ sym (cut-done l r i s e v (omega (arith, len, listed-length, few)))
+      ∙ sym (cut-done k l r i s e v (omega (arith, len, listed-length, few)))
 
-  two-is : (x y : VolumeSegment) (on : ℕ) → r .count < listedMax → cutOf l (listed r) i s e v ≡ take i (listed r) ++ (x ∷ (y ∷ drop (suc i) (listed r)))
-      → length (cutOf l (listed r) i s e v) ≡ suc (length (listed r)) → on ≡ put
-      → leftIn (set (insertOf (r .segments) (r .count) (i + 1) y) i x) (r .count + 1) (was .volume .0) on ≡ cutList l r i s e v
+  two-is : (x y : VolumeSegment) (on : ℕ) → r .count < listedMax → cutOf k l (listed r) i s e v ≡ take i (listed r) ++ (x ∷ (y ∷ drop (suc i) (listed r)))
+      → length (cutOf k l (listed r) i s e v) ≡ suc (length (listed r)) → on ≡ put
+      → leftIn (set (insertOf (r .segments) (r .count) (i + 1) y) i x) (r .count + 1) (was .volume .0) on ≡ cutList k l r i s e v
   two-is x y on room h len j =
-      let two : set (insertOf (r .segments) (r .count) (i + 1) y) i x ≡ padded listedMax zeroVolume (cutOf l (listed r) i s e v)
+      let two : set (insertOf (r .segments) (r .count) (i + 1) y) i x ≡ padded listedMax zeroVolume (cutOf k l (listed r) i s e v)
       = ap (λ (a : List VolumeSegment). set (insertOf a (r .count) (i + 1) y) i x) whole
       ∙ ap (λ (n : ℕ). set (insertOf (padded listedMax zeroVolume (listed r)) n (i + 1) y) i x) (sym listed-length)
       ∙ padded-two listedMax zeroVolume (listed r) i x y in-list (omega (arith, listed-length))
       ∙ ap (padded listedMax zeroVolume) (sym h) in
       made _ _ _ _ _ _ _ two (omega (arith, len, listed-length)) j
-      ∙ sym (cut-done l r i s e v (omega (arith, len, listed-length)))
+      ∙ sym (cut-done k l r i s e v (omega (arith, len, listed-length)))
 
   abbrev seg : VolumeSegment
   seg = getD (r .segments) i zeroVolume
 
-  pub book-start : seg .start .0 ≡ s → leftIn (set (r .segments) i (restOf seg e v)) (r .count) (seg .volume .0) (seg .volume .0 - v) ≡ cutList l r i s e v
+  pub book-start : seg .start .0 ≡ s → leftIn (set (r .segments) i (restOf k l seg e v)) (r .count) (seg .volume .0) (restOf k l seg e v .volume .0) ≡ cutList k l r i s e v
   book-start h =
-      let k : was .start .0 ≡ s = rw here h in
-      rw (← here) (stored-is _ _ (cut-start l (listed r) i s e v in-list k) (sym (ap roomOf (left-start l was s e v [] k) ∙ room-one _)))
+      let q : was .start .0 ≡ s = rw here h in
+      rw (← here) (stored-is _ _ (cut-start k l (listed r) i s e v in-list q) (sym (ap roomOf (left-start k l was s e v [] q) ∙ room-one _)))
 
   module _ (h : seg .start .0 ≡ s → ⊥) where
     within : was .start .0 ≡ s → ⊥
     within = rw here h
 
-    pub book-flat : s ≡ e → leftIn (set (r .segments) i (stretchOf l (seg .start .0) s)) (r .count) (seg .volume .0) (capacity l (seg .start .0) s) ≡ cutList l r i s e v
-    book-flat k = rw (← here) (stored-is _ _ (cut-flat l (listed r) i s e v in-list within k) (sym (ap roomOf (left-flat l was s e v [] within k) ∙ room-one _)))
+    pub book-flat : s ≡ e → leftIn (set (r .segments) i (stretchOf l (seg .start .0) s)) (r .count) (seg .volume .0) (capacity l (seg .start .0) s) ≡ cutList k l r i s e v
+    book-flat q = rw (← here) (stored-is _ _ (cut-flat k l (listed r) i s e v in-list within q) (sym (ap roomOf (left-flat k l was s e v [] within q) ∙ room-one _)))
 
-    module _ (k : s ≡ e → ⊥) where
-      two-length : length (cutOf l (listed r) i s e v) ≡ suc (length (listed r))
-      two-length = cut-two-length l (listed r) i s e v in-list within k
+    module _ (apart : s ≡ e → ⊥) where
+      two-length : length (cutOf k l (listed r) i s e v) ≡ suc (length (listed r))
+      two-length = cut-two-length k l (listed r) i s e v in-list within apart
 
-      pub book-full : listedMax ≤ r .count → cutAnswer 10 r 0 0 ≡ cutList l r i s e v
-      book-full full = sym (cut-full l r i s e v (omega (arith, two-length, listed-length)))
+      pub book-full : listedMax ≤ r .count → cutAnswer 10 r 0 0 ≡ cutList k l r i s e v
+      book-full full = sym (cut-full k l r i s e v (omega (arith, two-length, listed-length)))
 
       pub book-two : r .count < listedMax
           → leftIn (set (insertOf (r .segments) (r .count) (i + 1) (stretchOf l e (seg .end .0))) i (stretchOf l (seg .start .0) s)) (r .count + 1)
           (seg .volume .0) (capacity l (seg .start .0) s + capacity l e (seg .end .0))
-          ≡ cutList l r i s e v
+          ≡ cutList k l r i s e v
       book-two room =
           rw (← here)
-          (two-is _ _ _ room (cut-two l (listed r) i s e v in-list within k) two-length (sym (ap roomOf (left-two l was s e v [] within k) ∙ room-two _ _)))
+          (two-is _ _ _ room (cut-two k l (listed r) i s e v in-list within apart) two-length (sym (ap roomOf (left-two k l was s e v [] within apart) ∙ room-two _ _)))

@@ -6,6 +6,7 @@ use Rattle.units.specs.declared.Date.{Date}
 use Rattle.units.specs.declared.Interval.{Interval}
 use Rattle.units.specs.declared.Volume.{Volume}
 use Rattle.units.proofs.Determined.{Determined}
+use Rattle.segmentation.specs.declared.Edition.{Edition}
 use Rattle.segmentation.specs.declared.VolumeSegment.{VolumeSegment}
 use Rattle.free_list.specs.declared.FreeList.{FreeList}
 use Rattle.free_list.specs.declared.walk.Walk.{Walk}
@@ -29,19 +30,20 @@ use Rattle.free_list.proofs.walk.listed_ok.Reads as listed-ok-reads
 pub unused-unique : (segments : List VolumeSegment) (count : ℕ) → Determined (unused-reads.Post tt (segments, (count, tt)))
 unused-unique segments count r q x y f g = f ∙ sym g
 
-pub end-in-unique : (rates : List VolumeSegment) (m : ℕ) (s : VolumeSegment) (asked : Date) (size : Volume)
-    → Determined (end-in-reads.Post tt (rates, (m, (s, (asked, (size, tt))))))
-end-in-unique rates m s asked size r q x y f g = f ∙ sym g
+pub end-in-unique : (edition : Edition) (rates : List VolumeSegment) (m : ℕ) (s : VolumeSegment) (asked : Date) (size : Volume)
+    → Determined (end-in-reads.Post tt (edition, (rates, (m, (s, (asked, (size, tt)))))))
+end-in-unique edition rates m s asked size r q x y f g = f ∙ sym g
 
-pub find-offer-unique : (rates : List VolumeSegment) (m : ℕ) (segments : List VolumeSegment) (n : ℕ) (window : Interval) (asked : Date) (size : Volume)
-    → Determined (find-offer-reads.Post tt (rates, (m, (segments, (n, (window, (asked, (size, tt))))))))
-find-offer-unique rates m segments n window asked size r q x y f g = f ∙ sym g
+pub find-offer-unique : (edition : Edition) (rates : List VolumeSegment) (m : ℕ) (segments : List VolumeSegment) (n : ℕ) (window : Interval) (asked : Date) (size : Volume)
+    → Determined (find-offer-reads.Post tt (edition, (rates, (m, (segments, (n, (window, (asked, (size, tt)))))))))
+find-offer-unique edition rates m segments n window asked size r q x y f g = f ∙ sym g
 
 pub insert-unique : (segments : List VolumeSegment) (n i : ℕ) (s : VolumeSegment) → Determined (insert-reads.Post tt (segments, (n, (i, (s, tt)))))
 insert-unique segments n i s r q x y f g = f ∙ sym g
 
-pub rest-unique : (s : VolumeSegment) (end : Date) (size : Volume) → Determined (rest-reads.Post tt (s, (end, (size, tt))))
-rest-unique s end size r q x y f g = f ∙ sym g
+pub rest-unique : (edition : Edition) (rates : List VolumeSegment) (m : ℕ) (s : VolumeSegment) (end : Date) (size : Volume)
+    → Determined (rest-reads.Post tt (edition, (rates, (m, (s, (end, (size, tt)))))))
+rest-unique edition rates m s end size r q x y f g = f ∙ sym g
 
 pub stretch-unique : (rates : List VolumeSegment) (m : ℕ) (start end : Date) → Determined (stretch-reads.Post tt (rates, (m, (start, (end, tt)))))
 stretch-unique rates m start end r q x y f g = f ∙ sym g
@@ -55,9 +57,9 @@ nothing-unique r q x y f g = f ∙ sym g
 pub whole-unique : (window : Interval) (total : Volume) → Determined (whole-reads.Post tt (window, (total, tt)))
 whole-unique window total r q x y f g = f ∙ sym g
 
-pub cut-unique : (self : FreeList) (rates : List VolumeSegment) (m place : ℕ) (send : Interval) (size : Volume)
-    → Determined (cut-reads.Post tt (self, (rates, (m, (place, (send, (size, tt)))))))
-cut-unique self rates m place send size r q x y f g = f ∙ sym g
+pub cut-unique : (self : FreeList) (edition : Edition) (rates : List VolumeSegment) (m place : ℕ) (send : Interval) (size : Volume)
+    → Determined (cut-reads.Post tt (self, (edition, (rates, (m, (place, (send, (size, tt))))))))
+cut-unique self edition rates m place send size r q x y f g = f ∙ sym g
 
 pub changed-unique : (room off on : Volume) → Determined (changed-reads.Post tt (room, (off, (on, tt))))
 changed-unique room off on r q x y f g = ap (λ (n : ℕ). record { 0 = n }) (f ∙ sym g)

@@ -14,26 +14,30 @@ use Rattle.free_list.specs.declared.FreeList.{FreeList}
 use Rattle.free_list.specs.declared.Cut.{Cut}
 use Rattle.free_list.specs.Room.{roomOf}
 
--- booking at the segment's start: start becomes the end sent, volume falls by the size
-abbrev pub restOf : VolumeSegment → ℕ → ℕ → VolumeSegment
-restOf g e v = record { start = record { 0 = e }; end = g .end; volume = record { 0 = g .volume .0 - v } }
-
 -- a stretch with its volume worked out anew
 abbrev pub stretchOf : List VolumeSegment → ℕ → ℕ → VolumeSegment
 stretchOf l a b = record { start = record { 0 = a }; end = record { 0 = b }; volume = record { 0 = capacity l a b } }
 
+-- booking at the segment's start: volume falls by the size; edition 2: the exact capacity of what remains (02, R-5)
+abbrev pub restVolume : ℕ → List VolumeSegment → VolumeSegment → ℕ → ℕ → ℕ
+restVolume edition l g e v = pick (eqb edition 2) (capacity l e (g .end .0)) (g .volume .0 - v)
+
+-- and start becomes the end sent
+abbrev pub restOf : ℕ → List VolumeSegment → VolumeSegment → ℕ → ℕ → VolumeSegment
+restOf edition l g e v = record { start = record { 0 = e }; end = g .end; volume = record { 0 = restVolume edition l g e v } }
+
 -- what a booking of [s, e) leaves of a segment, before the others; a right part only if s and e differ, and it may be empty
-unfoldable pub leftOf : List VolumeSegment → VolumeSegment → ℕ → ℕ → ℕ → List VolumeSegment → List VolumeSegment
-leftOf l g s e v f =
+unfoldable pub leftOf : ℕ → List VolumeSegment → VolumeSegment → ℕ → ℕ → ℕ → List VolumeSegment → List VolumeSegment
+leftOf edition l g s e v f =
     pick (eqb (g .start .0) s)
-    (restOf g e v ∷ f)
+    (restOf edition l g e v ∷ f)
     (stretchOf l (g .start .0) s ∷ pick (eqb s e) f (stretchOf l e (g .end .0) ∷ f))
 
 -- the list with the segment at the offer's place cut
-unfoldable pub cutOf : List VolumeSegment → List VolumeSegment → ℕ → ℕ → ℕ → ℕ → List VolumeSegment
-cutOf l [] i s e v = []
-cutOf l (g ∷ f) zero s e v = leftOf l g s e v f
-cutOf l (g ∷ f) (suc i) s e v = g ∷ cutOf l f i s e v
+unfoldable pub cutOf : ℕ → List VolumeSegment → List VolumeSegment → ℕ → ℕ → ℕ → ℕ → List VolumeSegment
+cutOf edition l [] i s e v = []
+cutOf edition l (g ∷ f) zero s e v = leftOf edition l g s e v f
+cutOf edition l (g ∷ f) (suc i) s e v = g ∷ cutOf edition l f i s e v
 
 -- the listed segments of a record
 abbrev pub listed : FreeList → List VolumeSegment
@@ -52,8 +56,8 @@ abbrev pub cutAnswer : ℕ → FreeList → ℕ → ℕ → Cut
 cutAnswer n f off on = record { number = n; list = f; off = record { 0 = off }; on = record { 0 = on } }
 
 -- refusal 10: the booking would leave more than 64 listed segments
-unfoldable pub cutList : List VolumeSegment → FreeList → ℕ → ℕ → ℕ → ℕ → Cut
-cutList l r i s e v =
+unfoldable pub cutList : ℕ → List VolumeSegment → FreeList → ℕ → ℕ → ℕ → ℕ → Cut
+cutList edition l r i s e v =
     let g = getD (listed r) i zeroVolume in
-    unless (leb (length (cutOf l (listed r) i s e v)) listedMax) (cutAnswer 10 r 0 0)
-    (cutAnswer 0 (listIn (cutOf l (listed r) i s e v)) (g .volume .0) (roomOf (leftOf l g s e v [])))
+    unless (leb (length (cutOf edition l (listed r) i s e v)) listedMax) (cutAnswer 10 r 0 0)
+    (cutAnswer 0 (listIn (cutOf edition l (listed r) i s e v)) (g .volume .0) (roomOf (leftOf edition l g s e v [])))

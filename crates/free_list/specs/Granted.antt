@@ -47,9 +47,9 @@ abbrev pub insertOf : {A : Type 0} → List A → ℕ → ℕ → A → List A
 insertOf l n i a = take i l ++ (a ∷ (drop i (take n l) ++ drop (n + 1) l))
 
 -- the room is the list's, and fits when the segment at the place is cut
-pub record Roomy (l : List VolumeSegment) (r : FreeList) (place s e v room : ℕ) : Type 0 where
+pub record Roomy (edition : ℕ) (l : List VolumeSegment) (r : FreeList) (place s e v room : ℕ) : Type 0 where
   pub is : room ≡ roomOf (listed r)
-  pub small : roomOf (listed (cutList l r place s e v .list)) < 2 ^ 64
+  pub small : roomOf (listed (cutList edition l r place s e v .list)) < 2 ^ 64
 
 -- what a cut takes off and puts in makes the room that of its list
 pub record Changes (room : ℕ) (x : Cut) : Type 0 where

@@ -1,4 +1,5 @@
 // Lists of free time: their test in one pass, the search for an offer, the cut of a booking.
+use segmentation::Edition;
 use segmentation::End;
 use segmentation::RateSegment;
 use segmentation::VolumeSegment;
@@ -87,6 +88,7 @@ pub fn unused(segments: [VolumeSegment; FreeList::COUNT_MAX], count: usize) -> b
 
 // The end that a listed segment has for the bundle: none if it ends before the asked time or lists less than the size.
 pub fn end_in(
+    edition: Edition,
     rates: [VolumeSegment; RateSegment::COUNT_MAX],
     m: usize,
     g: VolumeSegment,
@@ -94,7 +96,7 @@ pub fn end_in(
     size: Volume,
 ) -> End
     requires { ⌜ m ≤ segmentsMax ⌝ ∗ ⌜ 0 < size .0 ⌝ ∗ ⌜ Covers (g .start .0) (take m rates) ⌝ }
-    ensures { λ r. ⌜ r ≡ endIn (endOf (take m rates)) g (asked .0) (size .0) ⌝ }
+    ensures { λ r. ⌜ r ≡ endIn (endOf (edition .0) (take m rates)) g (asked .0) (size .0) ⌝ }
 {
     let end = g.end;
     if end.0 < asked.0 {
@@ -104,11 +106,12 @@ pub fn end_in(
         return End::None;
     }
     let from = units::later(g.start, asked);
-    segmentation::find_end(rates, m, from, size, end)
+    segmentation::find_end(edition, rates, m, from, size, end)
 }
 
 // dry_run_tx: the first listed segment that has an end for the bundle.
 pub fn find_offer(
+    edition: Edition,
     rates: [VolumeSegment; RateSegment::COUNT_MAX],
     m: usize,
     segments: [VolumeSegment; FreeList::COUNT_MAX],
@@ -118,7 +121,7 @@ pub fn find_offer(
     size: Volume,
 ) -> Found
     requires { ⌜ m ≤ segmentsMax ⌝ ∗ ⌜ n ≤ listedMax ⌝ ∗ ⌜ 0 < size .0 ⌝ ∗ ⌜ Run (window .start .0) (take m rates) ⌝ ∗ ⌜ listOk (take m rates) (window .start .0) (window .end .0) (take n segments) ≡ true ⌝ }
-    ensures { λ r. ⌜ r ≡ offerOf (endOf (take m rates)) (take n segments) (asked .0) (size .0) ⌝ }
+    ensures { λ r. ⌜ r ≡ offerOf (endOf (edition .0) (take m rates)) (take n segments) (asked .0) (size .0) ⌝ }
 {
     let mut i: usize = 0;
     loop {
@@ -126,7 +129,7 @@ pub fn find_offer(
             break Found::None;
         }
         let g = segments[i];
-        let End::At(e) = end_in(rates, m, g, asked, size) else {
+        let End::At(e) = end_in(edition, rates, m, g, asked, size) else {
             i += 1;
             continue;
         };
@@ -163,19 +166,6 @@ pub fn insert(
     a
 }
 
-// A booking at the segment's start: it begins at the send end, with the size less.
-pub fn rest(g: VolumeSegment, end: Date, size: Volume) -> VolumeSegment
-    requires { ⌜ size .0 ≤ g .volume .0 ⌝ }
-    ensures { λ r. ⌜ r ≡ restOf g (end .0) (size .0) ⌝ }
-{
-    let to = g.end;
-    VolumeSegment {
-        start: end,
-        end: to,
-        volume: Volume(g.volume.0 - size.0),
-    }
-}
-
 // A stretch of free time with its volume worked out anew.
 pub fn stretch(
     rates: [VolumeSegment; RateSegment::COUNT_MAX],
@@ -191,6 +181,29 @@ pub fn stretch(
         start: start,
         end: end,
         volume: volume,
+    }
+}
+
+// A booking at the segment's start: it begins at the send end, with the size less, or with its volume worked out anew in edition 2.
+pub fn rest(
+    edition: Edition,
+    rates: [VolumeSegment; RateSegment::COUNT_MAX],
+    m: usize,
+    g: VolumeSegment,
+    end: Date,
+    size: Volume,
+) -> VolumeSegment
+    requires { ⌜ m ≤ segmentsMax ⌝ ∗ ⌜ Runs (take m rates) ⌝ ∗ ⌜ size .0 ≤ g .volume .0 ⌝ }
+    ensures { λ r. ⌜ r ≡ restOf (edition .0) (take m rates) g (end .0) (size .0) ⌝ }
+{
+    let to = g.end;
+    if edition.0 == Edition::SECOND {
+        return stretch(rates, m, end, to);
+    }
+    VolumeSegment {
+        start: end,
+        end: to,
+        volume: Volume(g.volume.0 - size.0),
     }
 }
 
@@ -261,6 +274,7 @@ impl FreeList {
     // schedule_tx: what a booking leaves of the list; 10 where there is no room for one more. One array is changed where it is, since each copy costs.
     pub fn cut(
         self,
+        edition: Edition,
         rates: [VolumeSegment; RateSegment::COUNT_MAX],
         m: usize,
         place: usize,
@@ -268,7 +282,7 @@ impl FreeList {
         size: Volume,
     ) -> Cut
         requires { ⌜ m ≤ segmentsMax ⌝ ∗ ⌜ Runs (take m rates) ⌝ ∗ ⌜ Inside self place (size .0) ⌝ }
-        ensures { λ r. ⌜ r ≡ cutList (take m rates) self place (send .start .0) (send .end .0) (size .0) ⌝ }
+        ensures { λ r. ⌜ r ≡ cutList (edition .0) (take m rates) self place (send .start .0) (send .end .0) (size .0) ⌝ }
     {
         let from = send.start;
         let to = send.end;
@@ -279,7 +293,7 @@ impl FreeList {
         let end = g.end;
         let off = g.volume;
         if start.0 == from.0 {
-            let kept = rest(g, to, size);
+            let kept = rest(edition, rates, m, g, to, size);
             a[place] = kept;
             let on = kept.volume;
             return FreeList::left(a, n, off, on);

@@ -17,8 +17,8 @@ use Rattle.free_list.proofs.Places.{book-start, book-flat, book-full, book-two}
 use Rattle.free_list.proofs.CutRoom.{cut-changes}
 
 -- the number and the list, one by one
-parts : (k off on : ℕ) (f : FreeList) (x : Cut) → cutAnswer k f off on ≡ x → (k ≡ x .number) × (f ≡ x .list)
-parts k off on f x h = (ap (λ (y : Cut). y .number) h, ap (λ (y : Cut). y .list) h)
+parts : (n off on : ℕ) (f : FreeList) (x : Cut) → cutAnswer n f off on ≡ x → (n ≡ x .number) × (f ≡ x .list)
+parts n off on f x h = (ap (λ (y : Cut). y .number) h, ap (λ (y : Cut). y .list) h)
 
 -- a room for what a cut with these figures takes off and puts in: what `changed` asks, and what it makes of it
 pub record Made (room off on : ℕ) (f : FreeList) : Type 0 where
@@ -27,50 +27,50 @@ pub record Made (room off on : ℕ) (f : FreeList) : Type 0 where
   pub is : room - off + on ≡ roomOf (listed f)
 
 -- g is the segment read at the place
-module _ (l : List VolumeSegment) (r : FreeList) (i s e v : ℕ) (size : length (r .segments) ≡ listedMax) (q : Inside r i v) (g : VolumeSegment) (read : g ≡ getD (r .segments) i zeroVolume) where
+module _ (k : ℕ) (l : List VolumeSegment) (r : FreeList) (i s e v : ℕ) (size : length (r .segments) ≡ listedMax) (q : Inside r i v) (g : VolumeSegment) (read : g ≡ getD (r .segments) i zeroVolume) where
   abbrev cut : Cut
-  cut = cutList l r i s e v
+  cut = cutList k l r i s e v
 
   -- a number, and the segments left with their count, are those of the cut
   abbrev AsCut : ℕ → List VolumeSegment → ℕ → Type 0
-  AsCut k a n = (k ≡ cut .number) × (record { segments = a; count = n } ≡ cut .list)
+  AsCut j a n = (j ≡ cut .number) × (record { segments = a; count = n } ≡ cut .list)
 
-  pub leaves-start : (a : List VolumeSegment) (x : VolumeSegment) → g .start .0 ≡ s → a ≡ set (r .segments) i x → x ≡ restOf g e v → AsCut 0 a (r .count)
-  leaves-start a x h put rest = rw (put, rest, read) (parts _ _ _ _ _ (book-start l r i s e v size q (rw read at h)))
+  pub leaves-start : (a : List VolumeSegment) (x : VolumeSegment) → g .start .0 ≡ s → a ≡ set (r .segments) i x → x ≡ restOf k l g e v → AsCut 0 a (r .count)
+  leaves-start a x h put rest = rw (put, rest, read) (parts _ _ _ _ _ (book-start k l r i s e v size q (rw read at h)))
 
   module _ (h : g .start .0 ≡ s → ⊥) (x : VolumeSegment) (before : x ≡ stretchOf l (g .start .0) s) where
     pub leaves-flat : (a : List VolumeSegment) → s ≡ e → a ≡ set (r .segments) i x → AsCut 0 a (r .count)
-    leaves-flat a k put = rw (put, before, read) (parts _ _ _ _ _ (book-flat l r i s e v size q (rw read at h) k))
+    leaves-flat a w put = rw (put, before, read) (parts _ _ _ _ _ (book-flat k l r i s e v size q (rw read at h) w))
 
-    module _ (k : s ≡ e → ⊥) where
+    module _ (apart : s ≡ e → ⊥) where
       pub leaves-full : listedMax ≤ r .count → AsCut 10 (r .segments) (r .count)
-      leaves-full full = parts _ _ _ _ _ (book-full l r i s e v size q (rw read at h) k full)
+      leaves-full full = parts _ _ _ _ _ (book-full k l r i s e v size q (rw read at h) apart full)
 
       pub leaves-two : (a b : List VolumeSegment) (y : VolumeSegment) → r .count < listedMax → y ≡ stretchOf l e (g .end .0)
           → b ≡ insertOf (r .segments) (r .count) (i + 1) y → a ≡ set b i x → AsCut 0 a (r .count + 1)
       leaves-two a b y lt after insert put =
-          rw (put, insert, before, after, read) (parts _ _ _ _ _ (book-two l r i s e v size q (rw read at h) k lt))
+          rw (put, insert, before, after, read) (parts _ _ _ _ _ (book-two k l r i s e v size q (rw read at h) apart lt))
 
   -- the room, if it is the list's and what the cut leaves fits
-  module _ (room : ℕ) (roomy : Roomy l r i s e v room) where
+  module _ (room : ℕ) (roomy : Roomy k l r i s e v room) where
     makes : (f : FreeList) (off on : ℕ) → cutAnswer 0 f off on ≡ cut → Made room off on (cut .list)
     makes f off on h =
-        let c : Changes room cut = cut-changes l r i s e v room size q roomy in
+        let c : Changes room cut = cut-changes k l r i s e v room size q roomy in
         let a : off ≡ cut .off .0 = ap (λ (y : Cut). y .off .0) h in
         let b : on ≡ cut .on .0 = ap (λ (y : Cut). y .on .0) h in
         let low = c .low in
         let sum = c .is in
         record { asks = (omega arith, omega arith); fits = omega arith; is = omega arith }
 
-    pub makes-start : (x : VolumeSegment) → g .start .0 ≡ s → x ≡ restOf g e v → Made room (g .volume .0) (x .volume .0) (cut .list)
-    makes-start x h rest = rw (rest, read) (makes _ _ _ (book-start l r i s e v size q (rw read at h)))
+    pub makes-start : (x : VolumeSegment) → g .start .0 ≡ s → x ≡ restOf k l g e v → Made room (g .volume .0) (x .volume .0) (cut .list)
+    makes-start x h rest = rw (rest, read) (makes _ _ _ (book-start k l r i s e v size q (rw read at h)))
 
     module _ (h : g .start .0 ≡ s → ⊥) (x : VolumeSegment) (before : x ≡ stretchOf l (g .start .0) s) where
       pub makes-flat : s ≡ e → Made room (g .volume .0) (x .volume .0) (cut .list)
-      makes-flat k = rw (before, read) (makes _ _ _ (book-flat l r i s e v size q (rw read at h) k))
+      makes-flat w = rw (before, read) (makes _ _ _ (book-flat k l r i s e v size q (rw read at h) w))
 
       pub makes-two : (s ≡ e → ⊥) → (y : VolumeSegment) → r .count < listedMax → y ≡ stretchOf l e (g .end .0) → Made room (g .volume .0) (x .volume .0 + y .volume .0) (cut .list)
-      makes-two k y lt after = rw (before, after, read) (makes _ _ _ (book-two l r i s e v size q (rw read at h) k lt))
+      makes-two apart y lt after = rw (before, after, read) (makes _ _ _ (book-two k l r i s e v size q (rw read at h) apart lt))
 
 -- what the new room is, where the list left is the cut's
 pub made-is : {room off on n : ℕ} {f : FreeList} {a : List VolumeSegment} {m : ℕ} → Made room off on f → n ≡ room - off + on → record { segments = a; count = m } ≡ f

@@ -20,6 +20,8 @@ use Rattle.free_words.proofs.insert.Kinds as insert-kinds
 use Rattle.free_words.proofs.insert.Reads as insert-reads
 use Rattle.free_words.proofs.stretch.Kinds as stretch-kinds
 use Rattle.free_words.proofs.stretch.Reads as stretch-reads
+use Rattle.free_words.proofs.rest.Kinds as rest-kinds
+use Rattle.free_words.proofs.rest.Reads as rest-reads
 use Rattle.free_words.proofs.cut.Kinds as cut-kinds
 use Rattle.free_words.proofs.cut.Reads as cut-reads
 
@@ -34,6 +36,9 @@ module _ (κs : Lfts 1) where
   pub stretch-unique : (a : Dens κs stretch-kinds.ps) → Determined (stretch-reads.Post κs a)
   stretch-unique a r q x y f g = f ∙ sym g
 
+  pub rest-unique : (a : Dens κs rest-kinds.ps) → Determined (rest-reads.Post κs a)
+  rest-unique a r q x y f g = f ∙ sym g
+
 module _ (κs : Lfts 2) where
   pub find-offer-unique : (a : Dens κs find-offer-kinds.ps) → Determined (find-offer-reads.Post κs a)
   find-offer-unique a r q x y f g = f ∙ sym g
@@ -47,15 +52,15 @@ module _ (κs : Lfts 4) where
   Exit = AtExit (endedOf 4 cut-kinds.ps cut-kinds.r) κs
 
   -- with its answer k, the list that a cut leaves: its numbers and its count
-  pub cut-leaves-unique : (a : Dens κs cut-kinds.ps) (k : ℕ) → Determined (Leaves (λ (s : Exit). s .1 .1 .1 .1 .1 .1 .0 .now) (cut-reads.Post κs a k))
+  pub cut-leaves-unique : (a : Dens κs cut-kinds.ps) (k : ℕ) → Determined (Leaves (λ (s : Exit). s .1 .1 .1 .1 .1 .1 .1 .0 .now) (cut-reads.Post κs a k))
   cut-leaves-unique a k r q x y f g =
       let same = f .2 .1 .0 ∙ sym (g .2 .1 .0) in
       same-numbers r q listedMax (f .1) (g .1) (ap volumesIn (f .0) ∙ ap (λ (l : FreeList). l .segments) same ∙ sym (ap volumesIn (g .0)))
 
-  pub cut-count-unique : (a : Dens κs cut-kinds.ps) (k : ℕ) → Determined (λ (n : ℕ) (s : Exit). (n ≡ s .1 .1 .1 .1 .1 .1 .1 .0 .now) × (cut-reads.Post κs a k s))
+  pub cut-count-unique : (a : Dens κs cut-kinds.ps) (k : ℕ) → Determined (λ (n : ℕ) (s : Exit). (n ≡ s .1 .1 .1 .1 .1 .1 .1 .1 .0 .now) × (cut-reads.Post κs a k s))
   cut-count-unique a k r q x y f g = f .0 ∙ ap (λ (l : FreeList). l .count) (f .1 .1 .0 ∙ sym (g .1 .1 .0)) ∙ sym (g .0)
 
   -- and its room
-  pub cut-room-unique : (a : Dens κs cut-kinds.ps) (k : ℕ) → Determined (λ (n : ℕ) (s : Exit). (n ≡ s .1 .1 .1 .1 .0 .now) × (cut-reads.Post κs a k s))
+  pub cut-room-unique : (a : Dens κs cut-kinds.ps) (k : ℕ) → Determined (λ (n : ℕ) (s : Exit). (n ≡ s .1 .1 .1 .1 .1 .0 .now) × (cut-reads.Post κs a k s))
   cut-room-unique a k r q x y f g =
       f .0 ∙ f .1 .1 .1 ∙ ap (λ (l : FreeList). roomOf (listed l)) (f .1 .1 .0 ∙ sym (g .1 .1 .0)) ∙ sym (g .0 ∙ g .1 .1 .1)

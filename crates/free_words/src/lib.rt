@@ -1,5 +1,6 @@
 // Lists of free time lent as numbers: the search for an offer, and the cut of a booking where the list stands.
 use free_list::Found;
+use segmentation::Edition;
 use segmentation::End;
 use segmentation::VolumeSegment;
 use units::Date;
@@ -19,7 +20,7 @@ ghost use Rattle.segmentation.specs.Granted.{Run, Runs, Covers};
 ghost use Rattle.segmentation.specs.End.{endOf};
 ghost use Rattle.free_list.specs.Listed.{listOk};
 ghost use Rattle.free_list.specs.Offer.{offerOf};
-ghost use Rattle.free_list.specs.Cut.{stretchOf, cutList, listed};
+ghost use Rattle.free_list.specs.Cut.{restOf, stretchOf, cutList, listed};
 ghost use Rattle.free_list.specs.Room.{roomOf};
 ghost use Rattle.free_list.specs.Granted.{Inside, Roomy, insertOf, endIn};
 ghost use Rattle.words.specs.Words.{volumesIn};
@@ -29,9 +30,16 @@ ghost use Rattle.free_words.specs.Words.{freeIn};
 fn told(words: &[u64]) {}
 
 // The end that a listed segment has for the bundle: none if it ends before the asked time or lists less than the size.
-pub fn end_in(rates: &[u64; SEGMENTS], m: usize, g: VolumeSegment, asked: Date, size: Volume) -> End
+pub fn end_in(
+    edition: Edition,
+    rates: &[u64; SEGMENTS],
+    m: usize,
+    g: VolumeSegment,
+    asked: Date,
+    size: Volume,
+) -> End
     requires { ⌜ m ≤ segmentsMax ⌝ ∗ ⌜ 0 < size .0 ⌝ ∗ ⌜ Covers (g .start .0) (take m (volumesIn (now rates))) ⌝ }
-    ensures { λ r. ⌜ r ≡ endIn (endOf (take m (volumesIn (now (rates .entry))))) g (asked .0) (size .0) ⌝ }
+    ensures { λ r. ⌜ r ≡ endIn (endOf (edition .0) (take m (volumesIn (now (rates .entry))))) g (asked .0) (size .0) ⌝ }
 {
     let end = g.end;
     if end.0 < asked.0 {
@@ -41,11 +49,12 @@ pub fn end_in(rates: &[u64; SEGMENTS], m: usize, g: VolumeSegment, asked: Date, 
         return End::None;
     }
     let from = units::later(g.start, asked);
-    words::find_end(rates, m, from, size, end)
+    words::find_end(edition, rates, m, from, size, end)
 }
 
 // dry_run_tx: the first listed segment that has an end for the bundle.
 pub fn find_offer(
+    edition: Edition,
     rates: &[u64; SEGMENTS],
     m: usize,
     free: &[u64; LISTED],
@@ -55,7 +64,7 @@ pub fn find_offer(
     size: Volume,
 ) -> Found
     requires { ⌜ m ≤ segmentsMax ⌝ ∗ ⌜ n ≤ listedMax ⌝ ∗ ⌜ 0 < size .0 ⌝ ∗ ⌜ Run (window .start .0) (take m (volumesIn (now rates))) ⌝ ∗ ⌜ listOk (take m (volumesIn (now rates))) (window .start .0) (window .end .0) (take n (volumesIn (now free))) ≡ true ⌝ }
-    ensures { λ r. ⌜ r ≡ offerOf (endOf (take m (volumesIn (now (rates .entry))))) (take n (volumesIn (now (free .entry)))) (asked .0) (size .0) ⌝ }
+    ensures { λ r. ⌜ r ≡ offerOf (endOf (edition .0) (take m (volumesIn (now (rates .entry))))) (take n (volumesIn (now (free .entry)))) (asked .0) (size .0) ⌝ }
 {
     told(free);
     let mut i: usize = 0;
@@ -64,7 +73,7 @@ pub fn find_offer(
             break Found::None;
         }
         let g = listed_at(free, i);
-        let End::At(e) = end_in(rates, m, g, asked, size) else {
+        let End::At(e) = end_in(edition, rates, m, g, asked, size) else {
             i += 1;
             continue;
         };
@@ -108,8 +117,32 @@ pub fn stretch(rates: &[u64; SEGMENTS], m: usize, start: Date, end: Date) -> Vol
     }
 }
 
+// A booking at the segment's start: the size less, or the volume worked out anew in edition 2.
+pub fn rest(
+    edition: Edition,
+    rates: &[u64; SEGMENTS],
+    m: usize,
+    g: VolumeSegment,
+    end: Date,
+    size: Volume,
+) -> VolumeSegment
+    requires { ⌜ m ≤ segmentsMax ⌝ ∗ ⌜ Runs (take m (volumesIn (now rates))) ⌝ ∗ ⌜ size .0 ≤ g .volume .0 ⌝ }
+    ensures { λ r. ⌜ r ≡ restOf (edition .0) (take m (volumesIn (now (rates .entry)))) g (end .0) (size .0) ⌝ }
+{
+    let to = g.end;
+    if edition.0 == Edition::SECOND {
+        return stretch(rates, m, end, to);
+    }
+    VolumeSegment {
+        start: end,
+        end: to,
+        volume: Volume(g.volume.0 - size.0),
+    }
+}
+
 // The cut of a booking that begins inside its segment: what comes before it, and what comes after unless it has no length.
 fn cut_inside(
+    edition: Edition,
     place: usize,
     size: Volume,
     rates: &[u64; SEGMENTS],
@@ -119,8 +152,8 @@ fn cut_inside(
     free: &mut [u64; LISTED],
     count: &mut usize,
 ) -> u8
-    requires { ⌜ m ≤ segmentsMax ⌝ ∗ ⌜ Runs (take m (volumesIn (now rates))) ⌝ ∗ ⌜ Inside (freeIn (now free) (now count)) place (size .0) ⌝ ∗ ⌜ Roomy (take m (volumesIn (now rates))) (freeIn (now free) (now count)) place (send .start .0) (send .end .0) (size .0) (now room) ⌝ ∗ ⌜ (getD (volumesIn (now free)) place zeroVolume .start .0 ≡ send .start .0 → ⊥) ⌝ }
-    ensures { λ r. ⌜ r ≡ cutList (take m (volumesIn (now (rates .entry)))) (freeIn (now (free .entry)) (now (count .entry))) place (send .start .0) (send .end .0) (size .0) .number ⌝ ∗ ⌜ freeIn (now (free .exit)) (now (count .exit)) ≡ cutList (take m (volumesIn (now (rates .entry)))) (freeIn (now (free .entry)) (now (count .entry))) place (send .start .0) (send .end .0) (size .0) .list ⌝ ∗ ⌜ now (room .exit) ≡ roomOf (listed (freeIn (now (free .exit)) (now (count .exit)))) ⌝ }
+    requires { ⌜ m ≤ segmentsMax ⌝ ∗ ⌜ Runs (take m (volumesIn (now rates))) ⌝ ∗ ⌜ Inside (freeIn (now free) (now count)) place (size .0) ⌝ ∗ ⌜ Roomy (edition .0) (take m (volumesIn (now rates))) (freeIn (now free) (now count)) place (send .start .0) (send .end .0) (size .0) (now room) ⌝ ∗ ⌜ (getD (volumesIn (now free)) place zeroVolume .start .0 ≡ send .start .0 → ⊥) ⌝ }
+    ensures { λ r. ⌜ r ≡ cutList (edition .0) (take m (volumesIn (now (rates .entry)))) (freeIn (now (free .entry)) (now (count .entry))) place (send .start .0) (send .end .0) (size .0) .number ⌝ ∗ ⌜ freeIn (now (free .exit)) (now (count .exit)) ≡ cutList (edition .0) (take m (volumesIn (now (rates .entry)))) (freeIn (now (free .entry)) (now (count .entry))) place (send .start .0) (send .end .0) (size .0) .list ⌝ ∗ ⌜ now (room .exit) ≡ roomOf (listed (freeIn (now (free .exit)) (now (count .exit)))) ⌝ }
 {
     told(free);
     let from = send.start;
@@ -156,6 +189,7 @@ fn cut_inside(
 // schedule_tx: cuts the booking out of the list where it stands, and keeps its room up; 10, and both as they were, where there is no place for one
 // more. The parameters stand in the order in which the library's own calls have theirs, so that few are moved between registers.
 pub fn cut(
+    edition: Edition,
     place: usize,
     size: Volume,
     rates: &[u64; SEGMENTS],
@@ -165,8 +199,8 @@ pub fn cut(
     free: &mut [u64; LISTED],
     count: &mut usize,
 ) -> u8
-    requires { ⌜ m ≤ segmentsMax ⌝ ∗ ⌜ Runs (take m (volumesIn (now rates))) ⌝ ∗ ⌜ Inside (freeIn (now free) (now count)) place (size .0) ⌝ ∗ ⌜ Roomy (take m (volumesIn (now rates))) (freeIn (now free) (now count)) place (send .start .0) (send .end .0) (size .0) (now room) ⌝ }
-    ensures { λ r. ⌜ r ≡ cutList (take m (volumesIn (now (rates .entry)))) (freeIn (now (free .entry)) (now (count .entry))) place (send .start .0) (send .end .0) (size .0) .number ⌝ ∗ ⌜ freeIn (now (free .exit)) (now (count .exit)) ≡ cutList (take m (volumesIn (now (rates .entry)))) (freeIn (now (free .entry)) (now (count .entry))) place (send .start .0) (send .end .0) (size .0) .list ⌝ ∗ ⌜ now (room .exit) ≡ roomOf (listed (freeIn (now (free .exit)) (now (count .exit)))) ⌝ }
+    requires { ⌜ m ≤ segmentsMax ⌝ ∗ ⌜ Runs (take m (volumesIn (now rates))) ⌝ ∗ ⌜ Inside (freeIn (now free) (now count)) place (size .0) ⌝ ∗ ⌜ Roomy (edition .0) (take m (volumesIn (now rates))) (freeIn (now free) (now count)) place (send .start .0) (send .end .0) (size .0) (now room) ⌝ }
+    ensures { λ r. ⌜ r ≡ cutList (edition .0) (take m (volumesIn (now (rates .entry)))) (freeIn (now (free .entry)) (now (count .entry))) place (send .start .0) (send .end .0) (size .0) .number ⌝ ∗ ⌜ freeIn (now (free .exit)) (now (count .exit)) ≡ cutList (edition .0) (take m (volumesIn (now (rates .entry)))) (freeIn (now (free .entry)) (now (count .entry))) place (send .start .0) (send .end .0) (size .0) .list ⌝ ∗ ⌜ now (room .exit) ≡ roomOf (listed (freeIn (now (free .exit)) (now (count .exit)))) ⌝ }
 {
     told(free);
     let from = send.start;
@@ -174,10 +208,10 @@ pub fn cut(
     let g = listed_at(free, place);
     let start = g.start;
     if start.0 != from.0 {
-        return cut_inside(place, size, rates, m, room, send, free, count);
+        return cut_inside(edition, place, size, rates, m, room, send, free, count);
     }
     let off = g.volume;
-    let kept = free_list::rest(g, to, size);
+    let kept = rest(edition, rates, m, g, to, size);
     let on = kept.volume;
     let was = Volume(*room);
     let next = free_list::changed(was, off, on);

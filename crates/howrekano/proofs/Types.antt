@@ -9,8 +9,8 @@ use Rattle.units.proofs.TxData as TxData
 use Rattle.units.proofs.TxData.Laws as TxData′
 use Rattle.units.proofs.Offer as Offer
 use Rattle.units.proofs.Offer.Laws as Offer′
-use Rattle.layout.proofs.opening.Opening as Opening
-use Rattle.layout.proofs.opening.Opening.Laws as Opening′
+use Rattle.howrekano.proofs.Opening as Opening
+use Rattle.howrekano.proofs.Opening.Laws as Opening′
 use Rattle.layout.proofs.polynomial.PolynomialOpening as PolynomialOpening
 use Rattle.layout.proofs.polynomial.PolynomialOpening.Laws as PolynomialOpening′
 use Rattle.layout.proofs.queue.QueueOpening as QueueOpening

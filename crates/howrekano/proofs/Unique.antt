@@ -117,13 +117,14 @@ queue-opened-unique x r q y z f g = f ∙ sym g
 pub dates-at-unique : (κs : Lfts 1) (a : Dens κs dates-at-kinds.ps) → Determined (dates-at-reads.Post κs a)
 dates-at-unique κs a r q x y f g = f ∙ sym g
 
-module _ (κs : Lfts 3) where
+module _ (κs : Lfts 4) where
   pub free-dry-run-kept-unique : (a : Dens κs free-dry-run-kept-kinds.ps) → Determined (free-dry-run-kept-reads.Post κs a)
   free-dry-run-kept-unique a r q x y f g = f ∙ sym g
 
   pub priority-dry-run-kept-unique : (a : Dens κs priority-dry-run-kept-kinds.ps) → Determined (priority-dry-run-kept-reads.Post κs a)
   priority-dry-run-kept-unique a r q x y f g = f ∙ sym g
 
+module _ (κs : Lfts 3) where
   pub polynomial-dry-run-kept-unique : (a : Dens κs polynomial-dry-run-kept-kinds.ps) → Determined (polynomial-dry-run-kept-reads.Post κs a)
   polynomial-dry-run-kept-unique a r q x y f g = f ∙ sym g
 
@@ -147,9 +148,9 @@ module _ {D X : Type 0} (left : X → D) (behind : X → List ℕ) (count : X �
     )
 
 -- with its answer k, what a booking leaves
-module _ (κs : Lfts 6) (a : Dens κs free-book-kept-kinds.ps) where
+module _ (κs : Lfts 7) (a : Dens κs free-book-kept-kinds.ps) where
   abbrev FreeExit : Type 0
-  FreeExit = AtExit (endedOf 6 free-book-kept-kinds.ps free-book-kept-kinds.r) κs
+  FreeExit = AtExit (endedOf 7 free-book-kept-kinds.ps free-book-kept-kinds.r) κs
 
   abbrev free-numbers : FreeExit → List ℕ
   free-numbers s = s .1 .1 .1 .1 .1 .0 .now
@@ -158,7 +159,7 @@ module _ (κs : Lfts 6) (a : Dens κs free-book-kept-kinds.ps) where
   free-count s = s .1 .1 .1 .1 .1 .1 .0 .now
 
   abbrev free-left : FreeExit → FreeVolume
-  free-left s = freeVolumeIn (a .0) (a .1 .0 .now) (a .1 .1 .0) (a .1 .1 .1 .0 .now) (a .1 .1 .1 .1 .0) (free-numbers s) (free-count s)
+  free-left s = freeVolumeIn (a .1 .1 .1 .1 .1 .1 .1 .1 .1 .1 .1 .0 .now) (a .0) (a .1 .0 .now) (a .1 .1 .0) (a .1 .1 .1 .0 .now) (a .1 .1 .1 .1 .0) (free-numbers s) (free-count s)
 
   pub free-book-kept-unique : Determined (free-book-kept-reads.Post κs a)
   free-book-kept-unique r q x y f g = f .0 ∙ sym (g .0)
@@ -171,9 +172,9 @@ module _ (κs : Lfts 6) (a : Dens κs free-book-kept-kinds.ps) where
   free-book-kept-room-unique k r q x y f g =
       f .0 ∙ f .1 .1 .1 ∙ ap (λ (m : FreeVolume). roomOf (listed (m .free))) (f .1 .1 .0 ∙ sym (g .1 .1 .0)) ∙ sym (g .0 ∙ g .1 .1 .1)
 
-module _ (κs : Lfts 5) (a : Dens κs priority-book-kept-kinds.ps) where
+module _ (κs : Lfts 6) (a : Dens κs priority-book-kept-kinds.ps) where
   abbrev PriorityExit : Type 0
-  PriorityExit = AtExit (endedOf 5 priority-book-kept-kinds.ps priority-book-kept-kinds.r) κs
+  PriorityExit = AtExit (endedOf 6 priority-book-kept-kinds.ps priority-book-kept-kinds.r) κs
 
   abbrev priority-numbers : PriorityExit → List ℕ
   priority-numbers s = s .1 .1 .1 .1 .1 .0 .now
@@ -182,7 +183,7 @@ module _ (κs : Lfts 5) (a : Dens κs priority-book-kept-kinds.ps) where
   priority-count s = s .1 .1 .1 .1 .1 .1 .0 .now
 
   abbrev priority-left : PriorityExit → PrioritySeg
-  priority-left s = prioritySegIn (a .0) (a .1 .0 .now) (a .1 .1 .0) (a .1 .1 .1 .0 .now) (a .1 .1 .1 .1 .0) (priority-numbers s) (priority-count s)
+  priority-left s = prioritySegIn (a .1 .1 .1 .1 .1 .1 .1 .1 .1 .1 .0 .now) (a .0) (a .1 .0 .now) (a .1 .1 .0) (a .1 .1 .1 .0 .now) (a .1 .1 .1 .1 .0) (priority-numbers s) (priority-count s)
 
   pub priority-book-kept-unique : Determined (priority-book-kept-reads.Post κs a)
   priority-book-kept-unique r q x y f g = f .0 ∙ sym (g .0)
@@ -227,7 +228,7 @@ stored-unique B a r q s t k l = (k .0 ∙ sym (l .0), k .1 ∙ sym (l .1))
 module _ {M : Type 1} (𝓤 : URA M) (H : Heap 𝓤) (A : Atoms 𝓤) (mem : Memory → SProp 𝓤) (run : Routine → Fun 𝓤) (at : Of date) (b : Of bundle) where
   module _ (m : RefT (Of free-volume)) where
     module _ (κs : Lfts 1) where
-      pub free-open-says : (x : RefT (Of opening)) (r : Of free-opened) (e : AtExit free-open.ended κs) → free-open.clauses 𝓤 H A mem run κs (x, tt) .ensures tt r e ≡ fact 𝓤 (Answered (freeOpenOf (x .now .window) (x .now .rates) (x .now .«rate_count») (x .now .delays) (x .now .«delay_count»)) r)
+      pub free-open-says : (x : RefT (Of opening)) (r : Of free-opened) (e : AtExit free-open.ended κs) → free-open.clauses 𝓤 H A mem run κs (x, tt) .ensures tt r e ≡ fact 𝓤 (Answered (freeOpenOf (x .now .choices) (x .now .window) (x .now .rates) (x .now .«rate_count») (x .now .delays) (x .now .«delay_count»)) r)
       free-open-says x r e = refl
 
       pub free-ok-says : (r : Bool) (e : AtExit free-ok.ended κs) → free-ok.clauses 𝓤 H A mem run κs (m, tt) .ensures tt r e ≡ fact 𝓤 (Answered (freeOk (m .now)) r)
@@ -251,7 +252,7 @@ module _ {M : Type 1} (𝓤 : URA M) (H : Heap 𝓤) (A : Atoms 𝓤) (mem : Mem
 
   module _ (m : RefT (Of priority-seg)) where
     module _ (κs : Lfts 1) where
-      pub priority-open-says : (x : RefT (Of opening)) (r : Of priority-opened) (e : AtExit priority-open.ended κs) → priority-open.clauses 𝓤 H A mem run κs (x, tt) .ensures tt r e ≡ fact 𝓤 (Answered (priorityOpenOf (x .now .window) (x .now .rates) (x .now .«rate_count») (x .now .delays) (x .now .«delay_count»)) r)
+      pub priority-open-says : (x : RefT (Of opening)) (r : Of priority-opened) (e : AtExit priority-open.ended κs) → priority-open.clauses 𝓤 H A mem run κs (x, tt) .ensures tt r e ≡ fact 𝓤 (Answered (priorityOpenOf (x .now .choices) (x .now .window) (x .now .rates) (x .now .«rate_count») (x .now .delays) (x .now .«delay_count»)) r)
       priority-open-says x r e = refl
 
       pub priority-ok-says : (r : Bool) (e : AtExit priority-ok.ended κs) → priority-ok.clauses 𝓤 H A mem run κs (m, tt) .ensures tt r e ≡ fact 𝓤 (Answered (priorityOk (m .now)) r)

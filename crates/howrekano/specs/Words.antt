@@ -14,24 +14,24 @@ use Rattle.poly.specs.declared.Polynome.{Polynome}
 use Rattle.seg.specs.declared.FreeVolume.{FreeVolume}
 use Rattle.pseg.specs.declared.PrioritySeg.{PrioritySeg}
 use Rattle.poly_seg.specs.declared.PolySeg.{PolySeg}
-use Rattle.words.specs.Words.{volumesIn, delaysIn}
+use Rattle.words.specs.Words.{choicesIn, volumesIn, delaysIn}
 use Rattle.free_words.specs.Words.{freeIn}
 use Rattle.booking_words.specs.Words.{listIn}
 
--- the window, and the rates and delays that the numbers are, with how many of each are used
-abbrev pub contactIn : Interval → List ℕ → ℕ → List ℕ → ℕ → Contact
-contactIn w rates m delays k =
-    record { window = w; rates = volumesIn rates; «rate_count» = m; delays = delaysIn delays; «delay_count» = k }
+-- the choices, the window, and the rates and delays that the numbers are, with how many of each are used
+abbrev pub contactIn : List ℕ → Interval → List ℕ → ℕ → List ℕ → ℕ → Contact
+contactIn h w rates m delays k =
+    record { choices = choicesIn h; window = w; rates = volumesIn rates; «rate_count» = m; delays = delaysIn delays; «delay_count» = k }
 
 -- 01, "Managers", Free volume: a contact and its free list, with the room that the list has
-abbrev pub freeVolumeIn : Interval → List ℕ → ℕ → List ℕ → ℕ → List ℕ → ℕ → FreeVolume
-freeVolumeIn w rates m delays k free n =
-    record { contact = contactIn w rates m delays k; free = freeIn free n; room = record { 0 = roomOf (listed (freeIn free n)) } }
+abbrev pub freeVolumeIn : List ℕ → Interval → List ℕ → ℕ → List ℕ → ℕ → List ℕ → ℕ → FreeVolume
+freeVolumeIn h w rates m delays k free n =
+    record { contact = contactIn h w rates m delays k; free = freeIn free n; room = record { 0 = roomOf (listed (freeIn free n)) } }
 
 -- Priority: a contact and its bookings
-abbrev pub prioritySegIn : Interval → List ℕ → ℕ → List ℕ → ℕ → List ℕ → ℕ → PrioritySeg
-prioritySegIn w rates m delays k bookings n =
-    record { contact = contactIn w rates m delays k; bookings = listIn bookings n }
+abbrev pub prioritySegIn : List ℕ → Interval → List ℕ → ℕ → List ℕ → ℕ → List ℕ → ℕ → PrioritySeg
+prioritySegIn h w rates m delays k bookings n =
+    record { contact = contactIn h w rates m delays k; bookings = listIn bookings n }
 
 -- the four coefficients and the offset
 abbrev pub polynomeIn : List ℤ → Date → Polynome

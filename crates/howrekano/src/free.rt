@@ -1,7 +1,7 @@
 // The free-volume manager from C or Rust: its record is lent, and no enum crosses. The calls whose names end in _kept test nothing, since whoever holds the record keeps its rules, and have its lists lent as numbers.
+use crate::Opening;
 use free_list::Chosen;
 use free_list::Found;
-use layout::opening::Opening;
 use seg::FreeVolume;
 use units::Bundle;
 use units::Date;
@@ -9,6 +9,7 @@ use units::Interval;
 use units::Offer;
 use units::TxData;
 use units::Volume;
+use words::CHOICES;
 use words::LISTED;
 use words::SEGMENTS;
 ghost use mathlib.Core.Path.{_≡_};
@@ -27,19 +28,20 @@ ghost use Rattle.howrekano.specs.Words.{freeVolumeIn, datesIn};
 
 // The opening by value, with its figures in one record.
 pub fn opened(x: Opening) -> seg::Opened
-    ensures { λ r. ⌜ r ≡ openOf (x .window) (x .rates) (x .«rate_count») (x .delays) (x .«delay_count») ⌝ }
+    ensures { λ r. ⌜ r ≡ openOf (x .choices) (x .window) (x .rates) (x .«rate_count») (x .delays) (x .«delay_count») ⌝ }
 {
+    let choices = x.choices;
     let window = x.window;
     let rates = x.rates;
     let rate_count = x.rate_count;
     let delays = x.delays;
     let delay_count = x.delay_count;
-    FreeVolume::open(window, rates, rate_count, delays, delay_count)
+    FreeVolume::open(choices, window, rates, rate_count, delays, delay_count)
 }
 
 #[no_mangle]
 pub extern "C" fn hk_free_open(x: &Opening) -> seg::Opened
-    ensures { λ r. ⌜ r ≡ openOf (now (x .entry) .window) (now (x .entry) .rates) (now (x .entry) .«rate_count») (now (x .entry) .delays) (now (x .entry) .«delay_count») ⌝ }
+    ensures { λ r. ⌜ r ≡ openOf (now (x .entry) .choices) (now (x .entry) .window) (now (x .entry) .rates) (now (x .entry) .«rate_count») (now (x .entry) .delays) (now (x .entry) .«delay_count») ⌝ }
 {
     opened(*x)
 }
@@ -101,15 +103,19 @@ fn chosen(
     count: usize,
     at: Date,
     bundle: Bundle,
+    choices: &[u64; CHOICES],
 ) -> Chosen
-    requires { ⌜ recordOk (freeVolumeIn window (now rates) «rate_count» (now delays) «delay_count» (now free) count) ≡ true ⌝ }
-    ensures { λ r. ⌜ r ≡ chosenOf (freeVolumeIn window (now (rates .entry)) «rate_count» (now (delays .entry)) «delay_count» (now (free .entry)) count) at bundle ⌝ }
+    requires { ⌜ recordOk (freeVolumeIn (now choices) window (now rates) «rate_count» (now delays) «delay_count» (now free) count) ≡ true ⌝ }
+    ensures { λ r. ⌜ r ≡ chosenOf (freeVolumeIn (now (choices .entry)) window (now (rates .entry)) «rate_count» (now (delays .entry)) «delay_count» (now (free .entry)) count) at bundle ⌝ }
 {
     if !bundle.ok_at(at) {
         return Chosen::refused(units::refusal::BUNDLE);
     }
     let size = bundle.size;
+    let named = words::choices_at(choices);
+    let edition = named.edition;
     let Found::At { place, send } = free_words::find_offer(
+        edition,
         rates,
         rate_count,
         free,
@@ -138,15 +144,19 @@ pub extern "C" fn hk_free_dry_run_kept(
     count: usize,
     at: Date,
     bundle: Bundle,
+    choices: &[u64; CHOICES],
 ) -> Offer
-    requires { ⌜ recordOk (freeVolumeIn window (now rates) «rate_count» (now delays) «delay_count» (now free) count) ≡ true ⌝ }
-    ensures { λ r. ⌜ r ≡ dryRunOf (freeVolumeIn window (now (rates .entry)) «rate_count» (now (delays .entry)) «delay_count» (now (free .entry)) count) at bundle ⌝ }
+    requires { ⌜ recordOk (freeVolumeIn (now choices) window (now rates) «rate_count» (now delays) «delay_count» (now free) count) ≡ true ⌝ }
+    ensures { λ r. ⌜ r ≡ dryRunOf (freeVolumeIn (now (choices .entry)) window (now (rates .entry)) «rate_count» (now (delays .entry)) «delay_count» (now (free .entry)) count) at bundle ⌝ }
 {
     if !bundle.ok_at(at) {
         return Offer::refused(units::refusal::BUNDLE);
     }
     let size = bundle.size;
+    let named = words::choices_at(choices);
+    let edition = named.edition;
     let Found::At { place: _, send } = free_words::find_offer(
+        edition,
         rates,
         rate_count,
         free,
@@ -173,9 +183,10 @@ pub extern "C" fn hk_free_book_kept(
     at: Date,
     bundle: Bundle,
     dates: &[u64; 4],
+    choices: &[u64; CHOICES],
 ) -> u8
-    requires { ⌜ recordOk (freeVolumeIn window (now rates) «rate_count» (now delays) «delay_count» (now free) (now count)) ≡ true ⌝ ∗ ⌜ now room ≡ roomOf (listed (freeIn (now free) (now count))) ⌝ }
-    ensures { λ r. ⌜ r ≡ bookOf (freeVolumeIn window (now (rates .entry)) «rate_count» (now (delays .entry)) «delay_count» (now (free .entry)) (now (count .entry))) at bundle (datesIn (now (dates .entry))) .number ⌝ ∗ ⌜ freeVolumeIn window (now (rates .entry)) «rate_count» (now (delays .entry)) «delay_count» (now (free .exit)) (now (count .exit)) ≡ bookOf (freeVolumeIn window (now (rates .entry)) «rate_count» (now (delays .entry)) «delay_count» (now (free .entry)) (now (count .entry))) at bundle (datesIn (now (dates .entry))) .manager ⌝ ∗ ⌜ now (room .exit) ≡ roomOf (listed (freeIn (now (free .exit)) (now (count .exit)))) ⌝ }
+    requires { ⌜ recordOk (freeVolumeIn (now choices) window (now rates) «rate_count» (now delays) «delay_count» (now free) (now count)) ≡ true ⌝ ∗ ⌜ now room ≡ roomOf (listed (freeIn (now free) (now count))) ⌝ }
+    ensures { λ r. ⌜ r ≡ bookOf (freeVolumeIn (now (choices .entry)) window (now (rates .entry)) «rate_count» (now (delays .entry)) «delay_count» (now (free .entry)) (now (count .entry))) at bundle (datesIn (now (dates .entry))) .number ⌝ ∗ ⌜ freeVolumeIn (now (choices .entry)) window (now (rates .entry)) «rate_count» (now (delays .entry)) «delay_count» (now (free .exit)) (now (count .exit)) ≡ bookOf (freeVolumeIn (now (choices .entry)) window (now (rates .entry)) «rate_count» (now (delays .entry)) «delay_count» (now (free .entry)) (now (count .entry))) at bundle (datesIn (now (dates .entry))) .manager ⌝ ∗ ⌜ now (room .exit) ≡ roomOf (listed (freeIn (now (free .exit)) (now (count .exit)))) ⌝ }
 {
     let n = *count;
     let stated = crate::dates_at(dates);
@@ -189,6 +200,7 @@ pub extern "C" fn hk_free_book_kept(
         n,
         at,
         bundle,
+        choices,
     );
     let offer = c.offer;
     let place = c.place;
@@ -198,5 +210,17 @@ pub extern "C" fn hk_free_book_kept(
     }
     let send = stated.send;
     let size = bundle.size;
-    free_words::cut(place, size, rates, rate_count, room, send, free, count)
+    let named = words::choices_at(choices);
+    let edition = named.edition;
+    free_words::cut(
+        edition,
+        place,
+        size,
+        rates,
+        rate_count,
+        room,
+        send,
+        free,
+        count,
+    )
 }

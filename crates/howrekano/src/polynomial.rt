@@ -4,6 +4,7 @@ use free_list::Found;
 use layout::polynomial::PolynomialOpening;
 use poly::Polynome;
 use poly_seg::PolySeg;
+use segmentation::Edition;
 use units::Bundle;
 use units::Date;
 use units::Interval;
@@ -177,5 +178,16 @@ pub extern "C" fn hk_polynomial_book_kept(
     }
     let send = stated.send;
     let mut none: u64 = 0;
-    free_words::cut(place, Volume(0), delays, 0, &mut none, send, free, count)
+    let first = Edition(Edition::FIRST);
+    free_words::cut(
+        first,
+        place,
+        Volume(0),
+        delays,
+        0,
+        &mut none,
+        send,
+        free,
+        count,
+    )
 }

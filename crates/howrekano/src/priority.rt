@@ -1,13 +1,14 @@
 // The priority manager from C or Rust: its record is lent, and no enum crosses. The calls whose names end in _kept test nothing, since whoever holds the record keeps its rules, and have its lists lent as numbers.
+use crate::Opening;
 use bookings::Level;
 use bookings::Run;
-use layout::opening::Opening;
 use pseg::PrioritySeg;
 use units::Bundle;
 use units::Date;
 use units::Interval;
 use units::Offer;
 use units::TxData;
+use words::CHOICES;
 use words::LISTED;
 use words::SEGMENTS;
 ghost use mathlib.Core.Path.{_≡_};
@@ -21,19 +22,20 @@ ghost use Rattle.howrekano.specs.Words.{prioritySegIn, datesIn};
 
 // The opening by value, with its figures in one record.
 pub fn opened(x: Opening) -> pseg::Opened
-    ensures { λ r. ⌜ r ≡ openOf (x .window) (x .rates) (x .«rate_count») (x .delays) (x .«delay_count») ⌝ }
+    ensures { λ r. ⌜ r ≡ openOf (x .choices) (x .window) (x .rates) (x .«rate_count») (x .delays) (x .«delay_count») ⌝ }
 {
+    let choices = x.choices;
     let window = x.window;
     let rates = x.rates;
     let rate_count = x.rate_count;
     let delays = x.delays;
     let delay_count = x.delay_count;
-    PrioritySeg::open(window, rates, rate_count, delays, delay_count)
+    PrioritySeg::open(choices, window, rates, rate_count, delays, delay_count)
 }
 
 #[no_mangle]
 pub extern "C" fn hk_priority_open(x: &Opening) -> pseg::Opened
-    ensures { λ r. ⌜ r ≡ openOf (now (x .entry) .window) (now (x .entry) .rates) (now (x .entry) .«rate_count») (now (x .entry) .delays) (now (x .entry) .«delay_count») ⌝ }
+    ensures { λ r. ⌜ r ≡ openOf (now (x .entry) .choices) (now (x .entry) .window) (now (x .entry) .rates) (now (x .entry) .«rate_count») (now (x .entry) .delays) (now (x .entry) .«delay_count») ⌝ }
 {
     opened(*x)
 }
@@ -85,16 +87,20 @@ pub extern "C" fn hk_priority_dry_run_kept(
     count: usize,
     at: Date,
     bundle: Bundle,
+    choices: &[u64; CHOICES],
 ) -> Offer
-    requires { ⌜ recordOk (prioritySegIn window (now rates) «rate_count» (now delays) «delay_count» (now bookings) count) ≡ true ⌝ }
-    ensures { λ r. ⌜ r ≡ dryRunOf (prioritySegIn window (now (rates .entry)) «rate_count» (now (delays .entry)) «delay_count» (now (bookings .entry)) count) at bundle ⌝ }
+    requires { ⌜ recordOk (prioritySegIn (now choices) window (now rates) «rate_count» (now delays) «delay_count» (now bookings) count) ≡ true ⌝ }
+    ensures { λ r. ⌜ r ≡ dryRunOf (prioritySegIn (now (choices .entry)) window (now (rates .entry)) «rate_count» (now (delays .entry)) «delay_count» (now (bookings .entry)) count) at bundle ⌝ }
 {
     if !bundle.ok_at(at) {
         return Offer::refused(units::refusal::BUNDLE);
     }
     let size = bundle.size;
     let priority = bundle.priority;
+    let named = words::choices_at(choices);
+    let edition = named.edition;
     let Run::Sent(send) = booking_words::find_run(
+        edition,
         rates,
         rate_count,
         window,
@@ -122,9 +128,10 @@ pub extern "C" fn hk_priority_book_kept(
     at: Date,
     bundle: Bundle,
     dates: &[u64; 4],
+    choices: &[u64; CHOICES],
 ) -> u8
-    requires { ⌜ recordOk (prioritySegIn window (now rates) «rate_count» (now delays) «delay_count» (now bookings) (now count)) ≡ true ⌝ }
-    ensures { λ r. ⌜ r ≡ bookOf (prioritySegIn window (now (rates .entry)) «rate_count» (now (delays .entry)) «delay_count» (now (bookings .entry)) (now (count .entry))) at bundle (datesIn (now (dates .entry))) .number ⌝ ∗ ⌜ prioritySegIn window (now (rates .entry)) «rate_count» (now (delays .entry)) «delay_count» (now (bookings .exit)) (now (count .exit)) ≡ bookOf (prioritySegIn window (now (rates .entry)) «rate_count» (now (delays .entry)) «delay_count» (now (bookings .entry)) (now (count .entry))) at bundle (datesIn (now (dates .entry))) .manager ⌝ }
+    requires { ⌜ recordOk (prioritySegIn (now choices) window (now rates) «rate_count» (now delays) «delay_count» (now bookings) (now count)) ≡ true ⌝ }
+    ensures { λ r. ⌜ r ≡ bookOf (prioritySegIn (now (choices .entry)) window (now (rates .entry)) «rate_count» (now (delays .entry)) «delay_count» (now (bookings .entry)) (now (count .entry))) at bundle (datesIn (now (dates .entry))) .number ⌝ ∗ ⌜ prioritySegIn (now (choices .entry)) window (now (rates .entry)) «rate_count» (now (delays .entry)) «delay_count» (now (bookings .exit)) (now (count .exit)) ≡ bookOf (prioritySegIn (now (choices .entry)) window (now (rates .entry)) «rate_count» (now (delays .entry)) «delay_count» (now (bookings .entry)) (now (count .entry))) at bundle (datesIn (now (dates .entry))) .manager ⌝ }
 {
     let n = *count;
     let stated = crate::dates_at(dates);
@@ -138,6 +145,7 @@ pub extern "C" fn hk_priority_book_kept(
         n,
         at,
         bundle,
+        choices,
     );
     let number = offer.refusal(stated);
     if number != 0 {

@@ -141,9 +141,9 @@ module _ (r : PolySeg) (q : Facts r) (t v : ℕ) (pos : 1 ≤ v) (i : ℕ) (send
       (q .free) (offer-picked (r .polynome) t v send (listed (r .free)) i h)
 
   -- the offer stands at a listed segment, as one of size 0 where there are no rates
-  pub found-offered : Offered [] 0 (listed (r .free)) i (send .start .0) (send .end .0) 0
+  pub found-offered : Offered 1 [] 0 (listed (r .free)) i (send .start .0) (send .end .0) 0
   found-offered =
-      listed-at (Sent t send) (λ g. Here [] 0 g (send .start .0) (send .end .0) 0) [] _ _ (listed (r .free)) i
+      listed-at (Sent t send) (λ g. Here 1 [] 0 g (send .start .0) (send .end .0) 0) [] _ _ (listed (r .free)) i
       (λ g a b k. bare-here g _ _ (k .from) (omega (arith, k .after)) (k .by))
       (q .free) found-at
 
@@ -156,7 +156,7 @@ module _ (r : PolySeg) (q : Facts r) (t v : ℕ) (pos : 1 ≤ v) (i : ℕ) (send
   found-late = place-get (Sent t send) (listed (r .free)) i found-at .late
 
   pub found-inside : (r .window .start .0 ≤ send .start .0) × (send .end .0 ≤ r .window .end .0)
-  found-inside = offered-inside [] 0 (r .window .end .0) (send .start .0) (send .end .0) 0 (listed (r .free)) _ i (q .free) found-offered
+  found-inside = offered-inside 1 [] 0 (r .window .end .0) (send .start .0) (send .end .0) 0 (listed (r .free)) _ i (q .free) found-offered
 
   -- its dates are in the window
   pub found-dates : (send .start .0 ≤ dateMax) × (send .end .0 ≤ dateMax)
@@ -166,4 +166,4 @@ module _ (r : PolySeg) (q : Facts r) (t v : ℕ) (pos : 1 ≤ v) (i : ℕ) (send
 
   -- what the cut's call asks
   pub cut-asks : Inside (r .free) i 0
-  cut-asks = offered-inside-list _ _ _ _ _ _ _ (q .few) (q .unused) found-offered
+  cut-asks = offered-inside-list _ _ _ _ _ _ _ _ (q .few) (q .unused) found-offered

@@ -81,9 +81,9 @@ pub record Accepted (r : PolySeg) (at : Date) (b : Bundle) (d : TxData) (a : Boo
   pub some : 1 ≤ b .size .0
   pub place : ℕ
   pub found : foundOf r (at .0) (b .size .0) ≡ At place (d .send)
-  pub few : length (cutOf [] (listed (r .free)) place (d .send .start .0) (d .send .end .0) 0) ≤ listedMax
+  pub few : length (cutOf 1 [] (listed (r .free)) place (d .send .start .0) (d .send .end .0) 0) ≤ listedMax
   pub number : a .number ≡ 0
-  pub manager : a .manager ≡ withFree r (listIn (cutOf [] (listed (r .free)) place (d .send .start .0) (d .send .end .0) 0))
+  pub manager : a .manager ≡ withFree r (listIn (cutOf 1 [] (listed (r .free)) place (d .send .start .0) (d .send .end .0) 0))
 
 refuse : (n : ℕ) (r : PolySeg) (a : Booked) → (n ≡ 0 → ⊥) → a ≡ refusedBooking n r → Refused r a
 refuse n r a h e = record { number = λ z. h (sym (ap (λ (x : Booked). x .number) e) ∙ z); same = ap (λ (x : Booked). x .manager) e }
@@ -97,21 +97,21 @@ module _ (r : PolySeg) (at : Date) (b : Bundle) (d : TxData) (ok : recordOk r �
       let i = chosenOf r at b .place in
       let is : booked ≡ bookedOf r i (d .send) = chosen-done r at b ok d none .0 in
       ⊎-elim
-      (λ (z : cutList [] (r .free) i (d .send .start .0) (d .send .end .0) 0 .number ≡ 0).
+      (λ (z : cutList 1 [] (r .free) i (d .send .start .0) (d .send .end .0) 0 .number ≡ 0).
       inr (record {
         some = chosen-some r at b ok d none;
         place = i;
         found = chosen-found r at b ok d none;
-        few = cut-few [] (r .free) i (d .send .start .0) (d .send .end .0) 0 z;
+        few = cut-few 1 [] (r .free) i (d .send .start .0) (d .send .end .0) 0 z;
         number = ap (λ (x : Booked). x .number) is ∙ z;
-        manager = ap (λ (x : Booked). x .manager) is ∙ ap (withFree r) (cut-list [] (r .free) i (d .send .start .0) (d .send .end .0) 0 z);
+        manager = ap (λ (x : Booked). x .manager) is ∙ ap (withFree r) (cut-list 1 [] (r .free) i (d .send .start .0) (d .send .end .0) 0 z);
       }))
-      (λ (z : cutList [] (r .free) i (d .send .start .0) (d .send .end .0) 0 .number ≡ 10).
+      (λ (z : cutList 1 [] (r .free) i (d .send .start .0) (d .send .end .0) 0 .number ≡ 10).
       inl (record {
         number = λ y. omega (arith, y, z, ap (λ (x : Booked). x .number) is);
-        same = ap (λ (x : Booked). x .manager) is ∙ ap (withFree r) (cut-refused [] (r .free) i (d .send .start .0) (d .send .end .0) 0 (λ y. omega arith));
+        same = ap (λ (x : Booked). x .manager) is ∙ ap (withFree r) (cut-refused 1 [] (r .free) i (d .send .start .0) (d .send .end .0) 0 (λ y. omega arith));
       }))
-      (cut-number [] (r .free) i (d .send .start .0) (d .send .end .0) 0)
+      (cut-number 1 [] (r .free) i (d .send .start .0) (d .send .end .0) 0)
 
   -- a booking is refused, and the record is the one that came; or the offer is cut out of the free list
   pub book-cases : (Refused r booked) ⊎ (Accepted r at b d booked)
@@ -129,8 +129,8 @@ module _ (r : PolySeg) (at : Date) (b : Bundle) (d : TxData) (ok : recordOk r �
       (λ (x : Accepted r at b d booked).
       let q = facts r ok in
       let o = found-offered r q (at .0) (b .size .0) (x .some) (x .place) (d .send) (x .found) in
-      let at-list = offered-at [] 0 (listed (r .free)) (x .place) _ _ _ o .0 in
-      let some = cut-some [] 0 (r .window .end .0) (d .send .start .0) (d .send .end .0) 0 (listed (r .free)) (x .place) (omega (arith, at-list)) in
-      let rules = cut-listed [] 0 (r .window .end .0) (d .send .start .0) (d .send .end .0) 0 (listed (r .free)) _ (x .place) (q .free) o in
+      let at-list = offered-at 1 [] 0 (listed (r .free)) (x .place) _ _ _ o .0 in
+      let some = cut-some 1 [] 0 (r .window .end .0) (d .send .start .0) (d .send .end .0) 0 (listed (r .free)) (x .place) (omega (arith, at-list)) in
+      let rules = cut-listed 1 [] 0 (r .window .end .0) (d .send .start .0) (d .send .end .0) 0 (listed (r .free)) _ (x .place) (q .free) o in
       rw (x .manager) (record-kept _ (q .test) (q .undelayed) (kept-in [] _ _ _ some (x .few) rules)))
       book-cases

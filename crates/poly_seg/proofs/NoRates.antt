@@ -35,10 +35,10 @@ unfolding segmentOk
 segment-by low hi g e = leb-true _ _ (both-fst _ _ (both-snd _ _ (both-snd _ _ e)))
 
 -- where the send stands in the segment, nothing of size 0 is asked of it
-pub bare-here : (g : VolumeSegment) (s e : ℕ) → g .start .0 ≤ s → s ≤ e → e ≤ g .end .0 → Here [] 0 g s e 0
+pub bare-here : (g : VolumeSegment) (s e : ℕ) → g .start .0 ≤ s → s ≤ e → e ≤ g .end .0 → Here 1 [] 0 g s e 0
 bare-here g s e from forth by =
     record {
       from = from;
       room = omega arith;
-      ends = record { forth = forth; by = by; low = omega (arith, no-capacity s e); near = omega arith };
+      ends = record { forth = forth; by = by; near = (omega (arith, no-capacity s e), omega arith) };
     }

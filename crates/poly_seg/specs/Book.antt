@@ -28,7 +28,7 @@ withFree r f =
 
 -- what a booking leaves of the record's list, or 10 and the list as it came; no rates and no size, so no volumes
 abbrev pub cutFree : PolySeg → ℕ → Interval → Cut
-cutFree r i send = cutList [] (r .free) i (send .start .0) (send .end .0) 0
+cutFree r i send = cutList 1 [] (r .free) i (send .start .0) (send .end .0) 0
 
 -- the record with the segment at a place cut, or 10 and the record as it came
 abbrev pub bookedOf : PolySeg → ℕ → Interval → Booked

@@ -5,6 +5,7 @@ use free_list::Found;
 use free_list::FreeList;
 use poly::Polynome;
 use segmentation::DelaySegment;
+use segmentation::Edition;
 use segmentation::End;
 use segmentation::RateSegment;
 use segmentation::VolumeSegment;
@@ -382,7 +383,7 @@ impl PolySeg {
         };
         let rates = [zero; RateSegment::COUNT_MAX];
         let free = self.free;
-        free.cut(rates, 0, place, send, Volume(0))
+        free.cut(Edition(Edition::FIRST), rates, 0, place, send, Volume(0))
     }
 
     // The listed segments: 1.

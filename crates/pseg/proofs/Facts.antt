@@ -16,7 +16,7 @@ use Rattle.units.proofs.Arrays.{take-padded, unused-padded}
 use Rattle.segmentation.specs.Capacity.{topOf}
 use Rattle.segmentation.proofs.EndLaws.{Ends, end-ends}
 use Rattle.contact.specs.declared.Contact.{Contact}
-use Rattle.contact.specs.Record.{contactOk, ratesOf}
+use Rattle.contact.specs.Record.{contactOk, ratesOf, editionOf}
 use Rattle.contact.proofs.Sound.{Sound, sound}
 use Rattle.bookings.specs.declared.BookingSegment.{BookingSegment}
 use Rattle.bookings.specs.declared.Run.the-variants.{Sent}
@@ -82,14 +82,14 @@ cover-some a b (g ∷ f) h e = omega arith
 
 module _ (r : PrioritySeg) (q : Facts r) (t : ℕ) (b : Bundle) (send : Interval) (h : runOf r t b ≡ Sent send) where
   -- no tick of the run has a level above the priority
-  pub found-free : Free (ruleOf (ratesOf (r .contact)) (b .size .0) (r .contact .window .end .0)) (levelAt (listed (r .bookings)))
+  pub found-free : Free (ruleOf (editionOf (r .contact)) (ratesOf (r .contact)) (b .size .0) (r .contact .window .end .0)) (levelAt (listed (r .bookings)))
       (r .contact .window .start .0) t (b .priority .0) (send .end .0) send
-  found-free = run-found (ruleOf (ratesOf (r .contact)) (b .size .0) (r .contact .window .end .0)) t (b .priority .0) _ _ (listed (r .bookings)) send (q .cover) h
+  found-free = run-found (ruleOf (editionOf (r .contact)) (ratesOf (r .contact)) (b .size .0) (r .contact .window .end .0)) t (b .priority .0) _ _ (listed (r .bookings)) send (q .cover) h
 
   module _ (pos : 0 < b .size .0) where
     -- its end is the end rule's, by the window's end
-    pub found-ends : Ends (ratesOf (r .contact)) (topOf (ratesOf (r .contact))) (send .start .0) (b .size .0) (r .contact .window .end .0) (send .end .0)
-    found-ends = end-ends (ratesOf (r .contact)) (send .start .0) (b .size .0) pos (r .contact .window .end .0) (send .end) (found-free .ends)
+    pub found-ends : Ends (editionOf (r .contact)) (ratesOf (r .contact)) (topOf (ratesOf (r .contact))) (send .start .0) (b .size .0) (r .contact .window .end .0) (send .end .0)
+    found-ends = end-ends (ratesOf (r .contact)) (send .start .0) (b .size .0) pos (editionOf (r .contact)) (r .contact .window .end .0) (send .end) (found-free .ends)
 
     -- its dates are in the window
     found-dates : (send .start .0 ≤ dateMax) × (send .end .0 ≤ dateMax)

@@ -19,6 +19,7 @@ use Rattle.units.proofs.Loads.{asked-load, load}
 use Rattle.units.proofs.Numbers.{le-or-lt, eq-or-ne}
 use Rattle.segmentation.specs.declared.RateSegment.{RateSegment}
 use Rattle.segmentation.specs.declared.DelaySegment.{DelaySegment}
+use Rattle.contact.specs.declared.Choices.{Choices}
 use Rattle.contact.specs.declared.Opened.{Opened as ContactOpened}
 use Rattle.contact.specs.Record.{contactOk}
 use Rattle.contact.specs.Open.{contactOf, openContact}
@@ -54,25 +55,25 @@ zero-go w o =
     (λ f z. absurd (eqb-false _ _ f z))
     (λ t z. (eqb-true _ _ t, refl))
 
-module _ (w : Interval) (rates : List RateSegment) (m : ℕ) (delays : List DelaySegment) (k : ℕ) (zero : openOf w rates m delays k .number ≡ 0) where
+module _ (h : Choices) (w : Interval) (rates : List RateSegment) (m : ℕ) (delays : List DelaySegment) (k : ℕ) (zero : openOf h w rates m delays k .number ≡ 0) where
   -- what an accepted opening hands back
-  pub opened-manager : (openContact w rates m delays k .number ≡ 0)
-      × (openOf w rates m delays k .manager ≡ record { contact = contactOf w rates m delays k; bookings = listIn (wholeWindow w ∷ []) })
+  pub opened-manager : (openContact h w rates m delays k .number ≡ 0)
+      × (openOf h w rates m delays k .manager ≡ record { contact = contactOf h w rates m delays k; bookings = listIn (wholeWindow w ∷ []) })
   unfolding openOf
   opened-manager =
-      let z = zero-go w (openContact w rates m delays k) zero in
-      (z .0, ap (λ (x : Opened). x .manager) (z .1) ∙ ap (λ (o : ContactOpened). doneOf w o .manager) (opened-is w rates m delays k (z .0) .0))
+      let z = zero-go w (openContact h w rates m delays k) zero in
+      (z .0, ap (λ (x : Opened). x .manager) (z .1) ∙ ap (λ (o : ContactOpened). doneOf w o .manager) (opened-is h w rates m delays k (z .0) .0))
 
   module _ (rate-size : length rates ≡ segmentsMax) (delay-size : length delays ≡ segmentsMax) where
-    opened-contact : contactOk (contactOf w rates m delays k) ≡ true
+    pub opened-contact : contactOk (contactOf h w rates m delays k) ≡ true
     opened-contact =
         let z = opened-manager .0 in
-        sym (ap (λ (o : ContactOpened). contactOk (o .contact)) (opened-is w rates m delays k z .0)) ∙ opened-ok w rates m delays k rate-size delay-size z
+        sym (ap (λ (o : ContactOpened). contactOk (o .contact)) (opened-is h w rates m delays k z .0)) ∙ opened-ok h w rates m delays k rate-size delay-size z
 
-    pub opened-keeps : recordOk (openOf w rates m delays k .manager) ≡ true
+    pub opened-keeps : recordOk (openOf h w rates m delays k .manager) ≡ true
     unfolding Cover
     opened-keeps =
-        let c = contactOf w rates m delays k in
+        let c = contactOf h w rates m delays k in
         let cover = cover-true (w .start .0) (w .end .0) (wholeWindow w ∷ []) (refl, omega (arith, sound c opened-contact .some), omega arith, refl) in
         rw (opened-manager .1) (record-kept c (wholeWindow w ∷ []) opened-contact (omega arith) (omega arith) cover)
 

@@ -3,3 +3,4 @@ pub mod Calls
 pub mod ByDryRun
 pub mod Kept
 pub mod Unique
+pub mod Second

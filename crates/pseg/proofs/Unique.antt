@@ -10,6 +10,7 @@ use Rattle.units.specs.declared.Bundle.{Bundle}
 use Rattle.units.proofs.Determined.{Determined}
 use Rattle.segmentation.specs.declared.RateSegment.{RateSegment}
 use Rattle.segmentation.specs.declared.DelaySegment.{DelaySegment}
+use Rattle.contact.specs.declared.Choices.{Choices}
 use Rattle.pseg.specs.declared.PrioritySeg.{PrioritySeg}
 use Rattle.pseg.proofs.nothing.Reads as nothing-reads
 use Rattle.pseg.proofs.whole.Reads as whole-reads
@@ -28,8 +29,8 @@ nothing-unique r q x y f g = f ∙ sym g
 pub whole-unique : (w : Interval) → Determined (whole-reads.Post tt (w, tt))
 whole-unique w r q x y f g = f ∙ sym g
 
-pub open-unique : (w : Interval) (rates : List RateSegment) (m : ℕ) (delays : List DelaySegment) (k : ℕ) → Determined (open-reads.Post tt (w, (rates, (m, (delays, (k, tt))))))
-open-unique w rates m delays k r q x y f g = f ∙ sym g
+pub open-unique : (h : Choices) (w : Interval) (rates : List RateSegment) (m : ℕ) (delays : List DelaySegment) (k : ℕ) → Determined (open-reads.Post tt (h, (w, (rates, (m, (delays, (k, tt)))))))
+open-unique h w rates m delays k r q x y f g = f ∙ sym g
 
 module _ (self : PrioritySeg) where
   pub ok-unique : Determined (ok-reads.Post tt (self, tt))

@@ -7,7 +7,7 @@ use Rattle.units.specs.Logic.{unless}
 use Rattle.units.specs.Limits.{bundleOk}
 use Rattle.units.specs.Answer.{refused}
 use Rattle.segmentation.specs.Delay.{answerWith}
-use Rattle.contact.specs.Record.{ratesOf, delayList}
+use Rattle.contact.specs.Record.{ratesOf, editionOf, delayList}
 use Rattle.bookings.specs.declared.Run.{Run}
 use Rattle.bookings.specs.declared.Run.the-variants.{Idle, Going, Sent}
 use Rattle.bookings.specs.Listed.{listed}
@@ -18,7 +18,7 @@ use Rattle.pseg.specs.Record.{recordOk}
 -- the run that is offered at t to a bundle
 abbrev pub runOf : PrioritySeg → ℕ → Bundle → Run
 runOf r t b =
-    searchOf (ruleOf (ratesOf (r .contact)) (b .size .0) (r .contact .window .end .0)) t (b .priority .0) (listed (r .bookings)) Idle
+    searchOf (ruleOf (editionOf (r .contact)) (ratesOf (r .contact)) (b .size .0) (r .contact .window .end .0)) t (b .priority .0) (listed (r .bookings)) Idle
 
 -- the number and the dates of what was found; 7 where no run reached its end
 abbrev pub answerTo : PrioritySeg → Run → Offer

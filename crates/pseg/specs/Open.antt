@@ -7,6 +7,7 @@ use Rattle.units.specs.declared.Interval.{Interval}
 use Rattle.units.specs.Logic.{unless}
 use Rattle.segmentation.specs.declared.RateSegment.{RateSegment}
 use Rattle.segmentation.specs.declared.DelaySegment.{DelaySegment}
+use Rattle.contact.specs.declared.Choices.{Choices}
 use Rattle.contact.specs.Open.{openContact, refusedContact}
 use Rattle.contact.specs.declared.Opened.{Opened as ContactOpened}
 use Rattle.bookings.specs.declared.BookingSegment.{BookingSegment}
@@ -32,5 +33,5 @@ openedOf w o =
     (record { number = 0; manager = record { contact = o .contact; bookings = listIn (wholeWindow w ∷ []) } })
 
 -- the opening
-unfoldable pub openOf : Interval → List RateSegment → ℕ → List DelaySegment → ℕ → Opened
-openOf w rates m delays k = openedOf w (openContact w rates m delays k)
+unfoldable pub openOf : Choices → Interval → List RateSegment → ℕ → List DelaySegment → ℕ → Opened
+openOf h w rates m delays k = openedOf w (openContact h w rates m delays k)

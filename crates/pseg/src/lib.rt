@@ -4,6 +4,7 @@ use bookings::Bookings;
 use bookings::Level;
 use bookings::Run;
 use bookings::Set;
+use contact::Choices;
 use contact::Contact;
 use segmentation::DelaySegment;
 use segmentation::RateSegment;
@@ -111,17 +112,18 @@ impl PrioritySeg {
         }
     }
 
-    // new and try_init: 3, 4, 6, 5 in this order; the whole window is listed, with -1.
+    // new and try_init: 2 for a choice, then 3, 4, 6, 5 in this order; the whole window is listed, with -1.
     pub fn open(
+        choices: Choices,
         window: Interval,
         rates: [RateSegment; RateSegment::COUNT_MAX],
         rate_count: usize,
         delays: [DelaySegment; DelaySegment::COUNT_MAX],
         delay_count: usize,
     ) -> Opened
-        ensures { λ r. ⌜ r ≡ openOf window rates «rate_count» delays «delay_count» ⌝ }
+        ensures { λ r. ⌜ r ≡ openOf choices window rates «rate_count» delays «delay_count» ⌝ }
     {
-        let o = Contact::open(window, rates, rate_count, delays, delay_count);
+        let o = Contact::open(choices, window, rates, rate_count, delays, delay_count);
         let number = o.number;
         if number != 0 {
             return PrioritySeg::refused_opening(number);
@@ -171,6 +173,8 @@ impl PrioritySeg {
         }
         let contact = self.contact;
         let bookings = self.bookings;
+        let choices = contact.choices;
+        let edition = choices.edition;
         let window = contact.window;
         let rates = contact.rates;
         let m = contact.rate_count;
@@ -178,8 +182,17 @@ impl PrioritySeg {
         let n = bookings.count;
         let size = bundle.size;
         let priority = bundle.priority;
-        let Run::Sent(send) = bookings::find_run(rates, m, window, segments, n, at, size, priority)
-        else {
+        let Run::Sent(send) = bookings::find_run(
+            edition,
+            rates,
+            m,
+            window,
+            segments,
+            n,
+            at,
+            size,
+            priority,
+        ) else {
             return Offer::refused(units::refusal::NO_OFFER);
         };
         contact.answer(send)

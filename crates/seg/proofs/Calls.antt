@@ -18,7 +18,7 @@ use Rattle.units.specs.Granted.{refusalOf}
 use Rattle.units.proofs.Logic.{unless-go, unless-stop}
 use Rattle.units.proofs.Loads.{asked-load, load}
 use Rattle.segmentation.specs.declared.DelaySegment.{DelaySegment}
-use Rattle.contact.specs.Record.{ratesOf, delayList}
+use Rattle.contact.specs.Record.{editionOf, ratesOf, delayList}
 use Rattle.free_list.specs.declared.Found.{Found}
 use Rattle.free_list.specs.declared.Found.the-variants.{At, None}
 use Rattle.free_list.specs.declared.Cut.{Cut}
@@ -44,9 +44,9 @@ module _ (r : FreeVolume) (q : Facts r) (i : ℕ) (send : Interval) (v : ℕ) wh
       (λ (z : cut .number ≡ 0). unless-go _ _ _ (eq-eqb _ _ z) ∙ ap (λ (n : ℕ). record { number = n; manager = withFree r (cut .list) }) (sym z))
       (λ (z : cut .number ≡ 10).
       let none : cut .number ≡ 0 → ⊥ = λ y. omega arith in
-      let same : withFree r (cut .list) ≡ r = ap (withFree r) (cut-refused (ratesOf (r .contact)) (r .free) i (send .start .0) (send .end .0) v none) ∙ own-list r q in
+      let same : withFree r (cut .list) ≡ r = ap (withFree r) (cut-refused (editionOf (r .contact)) (ratesOf (r .contact)) (r .free) i (send .start .0) (send .end .0) v none) ∙ own-list r q in
       unless-stop _ _ _ (ne-eqb _ _ none) ∙ ap (refusedBooking (cut .number)) (sym same))
-      (cut-number (ratesOf (r .contact)) (r .free) i (send .start .0) (send .end .0) v)
+      (cut-number (editionOf (r .contact)) (ratesOf (r .contact)) (r .free) i (send .start .0) (send .end .0) v)
 
 module _ (r : FreeVolume) (at : Date) (b : Bundle) where
   pub dry-record : recordOk r ≡ false → dryRunOf r at b ≡ refused 1

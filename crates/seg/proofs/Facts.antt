@@ -14,9 +14,8 @@ use Rattle.units.specs.Logic.{both, allOf}
 use Rattle.units.proofs.Logic.{both-fst, both-snd, both-yes}
 use Rattle.units.proofs.Counted.{counted-some, counted-most, counted-holds}
 use Rattle.segmentation.specs.Capacity.{topOf}
-use Rattle.segmentation.specs.End.{endOf}
 use Rattle.contact.specs.Segments.{noVolume}
-use Rattle.contact.specs.Record.{contactOk, ratesOf}
+use Rattle.contact.specs.Record.{contactOk, ratesOf, editionOf, endRule}
 use Rattle.contact.proofs.Sound.{Sound, sound}
 use Rattle.free_list.specs.declared.Found.the-variants.{At}
 use Rattle.free_list.specs.declared.Cut.{Cut}
@@ -101,17 +100,17 @@ own-list r q = ap (λ (n : ℕ). withLeft r (r .free) (record { 0 = n })) (sym (
 
 module _ (r : FreeVolume) (q : Facts r) (t v : ℕ) (pos : 0 < v) (i : ℕ) (send : Interval) (h : foundOf r t v ≡ At i send) where
   -- the offer stands at a listed segment, with the laws of the end rule
-  pub found-offered : Offered (ratesOf (r .contact)) (topOf (ratesOf (r .contact))) (listed (r .free)) i (send .start .0) (send .end .0) v
+  pub found-offered : Offered (editionOf (r .contact)) (ratesOf (r .contact)) (topOf (ratesOf (r .contact))) (listed (r .free)) i (send .start .0) (send .end .0) v
   found-offered =
-      offer-at (endOf (ratesOf (r .contact))) (ratesOf (r .contact)) (r .contact .window .start .0) (r .contact .window .end .0) (topOf (ratesOf (r .contact))) t v send
-      (exact-laws (ratesOf (r .contact)) (r .contact .window .start .0)) pos (listed (r .free)) (r .contact .window .start .0) i (q .free) (le-refl _) h
+      offer-at (editionOf (r .contact)) (endRule (r .contact)) (ratesOf (r .contact)) (r .contact .window .start .0) (r .contact .window .end .0) (topOf (ratesOf (r .contact))) t v send
+      (exact-laws (editionOf (r .contact)) (ratesOf (r .contact)) (r .contact .window .start .0)) pos (listed (r .free)) (r .contact .window .start .0) i (q .free) (le-refl _) h
 
   -- its dates are in the window
   found-dates : (send .start .0 ≤ dateMax) × (send .end .0 ≤ dateMax)
   found-dates =
       let l = ratesOf (r .contact) in
-      let in-window = offered-inside l (topOf l) (r .contact .window .end .0) (send .start .0) (send .end .0) v (listed (r .free)) _ i (q .free) found-offered in
-      let forth = offered-ends l (topOf l) (send .start .0) (send .end .0) v (listed (r .free)) i found-offered .1 .forth in
+      let in-window = offered-inside (editionOf (r .contact)) l (topOf l) (r .contact .window .end .0) (send .start .0) (send .end .0) v (listed (r .free)) _ i (q .free) found-offered in
+      let forth = offered-ends (editionOf (r .contact)) l (topOf l) (send .start .0) (send .end .0) v (listed (r .free)) i found-offered .1 .forth in
       let date : r .contact .window .end .0 ≤ dateMax = q .contact .date in
       (omega (arith, in-window .1, forth), omega (arith, in-window .1))
 
@@ -121,4 +120,4 @@ module _ (r : FreeVolume) (q : Facts r) (t v : ℕ) (pos : 0 < v) (i : ℕ) (sen
 
   -- what the cut's call asks
   pub cut-asks : Inside (r .free) i v
-  cut-asks = offered-inside-list _ _ _ _ _ _ _ (q .few) (q .unused) found-offered
+  cut-asks = offered-inside-list _ _ _ _ _ _ _ _ (q .few) (q .unused) found-offered

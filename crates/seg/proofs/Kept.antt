@@ -22,8 +22,9 @@ use Rattle.segmentation.specs.declared.RateSegment.{RateSegment}
 use Rattle.segmentation.specs.declared.DelaySegment.{DelaySegment}
 use Rattle.segmentation.specs.Capacity.{capacity, topOf}
 use Rattle.segmentation.proofs.Capacity.{total-is}
+use Rattle.contact.specs.declared.Choices.{Choices}
 use Rattle.contact.specs.declared.Opened.{Opened as ContactOpened}
-use Rattle.contact.specs.Record.{contactOk, ratesOf}
+use Rattle.contact.specs.Record.{contactOk, ratesOf, editionOf}
 use Rattle.contact.specs.Open.{totalOf, contactOf, openContact}
 use Rattle.contact.proofs.Sound.{sound}
 use Rattle.contact.proofs.Fresh.{opened-ok, opened-total}
@@ -61,29 +62,35 @@ zero-go : (w : Interval) (o : ContactOpened) (c : Bool) → eqb (o .number) 0 �
 zero-go w o true e h = (eqb-true _ _ e, refl)
 zero-go w o false e h = absurd (eqb-false _ _ e h)
 
-module _ (w : Interval) (rates : List RateSegment) (m : ℕ) (delays : List DelaySegment) (k : ℕ)
-    (rate-size : length rates ≡ segmentsMax) (delay-size : length delays ≡ segmentsMax) (zero : openOf w rates m delays k .number ≡ 0) where
+module _ (h : Choices) (w : Interval) (rates : List RateSegment) (m : ℕ) (delays : List DelaySegment) (k : ℕ)
+    (rate-size : length rates ≡ segmentsMax) (delay-size : length delays ≡ segmentsMax) (zero : openOf h w rates m delays k .number ≡ 0) where
   -- what an accepted opening hands back
-  pub opened-manager : (openContact w rates m delays k .number ≡ 0)
-      × (openOf w rates m delays k .manager
-      ≡ wholeOf (contactOf w rates m delays k) w (totalOf (take m rates)))
+  pub opened-manager : (openContact h w rates m delays k .number ≡ 0)
+      × (openOf h w rates m delays k .manager
+      ≡ wholeOf (contactOf h w rates m delays k) w (totalOf (take m rates)))
   unfolding openOf
   opened-manager =
-      let z = zero-go w (openContact w rates m delays k) (eqb (openContact w rates m delays k .number) 0) refl zero in
-      (z .0, ap (λ (x : Opened). x .manager) (z .1) ∙ ap (λ (o : ContactOpened). doneOf w o .manager) (opened-is w rates m delays k (z .0) .0))
+      let z = zero-go w (openContact h w rates m delays k) (eqb (openContact h w rates m delays k .number) 0) refl zero in
+      (z .0, ap (λ (x : Opened). x .manager) (z .1) ∙ ap (λ (o : ContactOpened). doneOf w o .manager) (opened-is h w rates m delays k (z .0) .0))
 
-  opened-contact : contactOk (contactOf w rates m delays k) ≡ true
+  pub opened-contact : contactOk (contactOf h w rates m delays k) ≡ true
   opened-contact =
       let z = opened-manager .0 in
-      sym (ap (λ (o : ContactOpened). contactOk (o .contact)) (opened-is w rates m delays k z .0)) ∙ opened-ok w rates m delays k rate-size delay-size z
+      sym (ap (λ (o : ContactOpened). contactOk (o .contact)) (opened-is h w rates m delays k z .0)) ∙ opened-ok h w rates m delays k rate-size delay-size z
 
-  pub opened-keeps : recordOk (openOf w rates m delays k .manager) ≡ true
+  -- the total volume is the exact capacity of the window
+  pub opened-full : totalOf (take m rates) ≡ capacity (ratesOf (contactOf h w rates m delays k)) (w .start .0) (w .end .0)
+  opened-full =
+      let l = ratesOf (contactOf h w rates m delays k) in
+      let q = sound (contactOf h w rates m delays k) opened-contact in
+      opened-total h w rates m delays k rate-size (opened-manager .0) ∙ total-is l (w .start .0) (q .run) ∙ ap (capacity l (w .start .0)) (q .close)
+
+  pub opened-keeps : recordOk (openOf h w rates m delays k .manager) ≡ true
   unfolding Listed
   opened-keeps =
-      let l = ratesOf (contactOf w rates m delays k) in
-      let q = sound (contactOf w rates m delays k) opened-contact in
-      let full : totalOf (take m rates) ≡ capacity l (w .start .0) (w .end .0) =
-      opened-total w rates m delays k rate-size (opened-manager .0) ∙ total-is l (w .start .0) (q .run) ∙ ap (capacity l (w .start .0)) (q .close) in
+      let l = ratesOf (contactOf h w rates m delays k) in
+      let q = sound (contactOf h w rates m delays k) opened-contact in
+      let full = opened-full in
       rw (opened-manager .1)
       (record-kept _ opened-contact
       (kept-in l (w .start .0) (w .end .0) (wholeWindow w (totalOf (take m rates)) ∷ []) (omega arith) (omega arith)
@@ -99,10 +106,10 @@ pub record Accepted (r : FreeVolume) (at : Date) (b : Bundle) (d : TxData) (a : 
   pub some : 0 < b .size .0
   pub place : ℕ
   pub found : foundOf r (at .0) (b .size .0) ≡ At place (d .send)
-  pub few : length (cutOf (ratesOf (r .contact)) (listed (r .free)) place (d .send .start .0) (d .send .end .0) (b .size .0)) ≤ listedMax
+  pub few : length (cutOf (editionOf (r .contact)) (ratesOf (r .contact)) (listed (r .free)) place (d .send .start .0) (d .send .end .0) (b .size .0)) ≤ listedMax
   pub number : a .number ≡ 0
   pub manager : a .manager
-      ≡ withFree r (listIn (cutOf (ratesOf (r .contact)) (listed (r .free)) place (d .send .start .0) (d .send .end .0) (b .size .0)))
+      ≡ withFree r (listIn (cutOf (editionOf (r .contact)) (ratesOf (r .contact)) (listed (r .free)) place (d .send .start .0) (d .send .end .0) (b .size .0)))
 
 refuse : (n : ℕ) (r : FreeVolume) (a : Booked) → (n ≡ 0 → ⊥) → a ≡ refusedBooking n r → Refused r a
 refuse n r a h e = record { number = λ z. h (sym (ap (λ (x : Booked). x .number) e) ∙ z); same = ap (λ (x : Booked). x .manager) e }
@@ -114,25 +121,26 @@ module _ (r : FreeVolume) (at : Date) (b : Bundle) (d : TxData) (ok : recordOk r
   at-place : refusalOf (chosenOf r at b .offer) d ≡ 0 → (Refused r booked) ⊎ (Accepted r at b d booked)
   at-place none =
       let v = b .size .0 in
+      let n = editionOf (r .contact) in
       let l = ratesOf (r .contact) in
       let i = chosenOf r at b .place in
       let is : booked ≡ bookedBy r (cutFree r i (d .send) v) = chosen-done r at b ok d none .0 in
       ⊎-elim
-      (λ (z : cutList l (r .free) i (d .send .start .0) (d .send .end .0) v .number ≡ 0).
+      (λ (z : cutList n l (r .free) i (d .send .start .0) (d .send .end .0) v .number ≡ 0).
       inr (record {
         some = load b (asked-load at b (chosen-fits r at b ok d none)) .some;
         place = i;
         found = chosen-found r at b ok d none;
-        few = cut-few l (r .free) i (d .send .start .0) (d .send .end .0) v z;
+        few = cut-few n l (r .free) i (d .send .start .0) (d .send .end .0) v z;
         number = ap (λ (x : Booked). x .number) is ∙ z;
-        manager = ap (λ (x : Booked). x .manager) is ∙ ap (withFree r) (cut-list l (r .free) i (d .send .start .0) (d .send .end .0) v z);
+        manager = ap (λ (x : Booked). x .manager) is ∙ ap (withFree r) (cut-list n l (r .free) i (d .send .start .0) (d .send .end .0) v z);
       }))
-      (λ (z : cutList l (r .free) i (d .send .start .0) (d .send .end .0) v .number ≡ 10).
+      (λ (z : cutList n l (r .free) i (d .send .start .0) (d .send .end .0) v .number ≡ 10).
       inl (record {
         number = λ y. omega (arith, y, z, ap (λ (x : Booked). x .number) is);
-        same = ap (λ (x : Booked). x .manager) is ∙ ap (withFree r) (cut-refused l (r .free) i (d .send .start .0) (d .send .end .0) v (λ y. omega arith)) ∙ own-list r (facts r ok);
+        same = ap (λ (x : Booked). x .manager) is ∙ ap (withFree r) (cut-refused n l (r .free) i (d .send .start .0) (d .send .end .0) v (λ y. omega arith)) ∙ own-list r (facts r ok);
       }))
-      (cut-number l (r .free) i (d .send .start .0) (d .send .end .0) v)
+      (cut-number n l (r .free) i (d .send .start .0) (d .send .end .0) v)
 
   -- a booking is refused, and the record is the one that came; or the offer is cut out of the free list
   pub book-cases : (Refused r booked) ⊎ (Accepted r at b d booked)
@@ -149,10 +157,11 @@ module _ (r : FreeVolume) (at : Date) (b : Bundle) (d : TxData) (ok : recordOk r
       (λ (x : Refused r booked). rw (x .same) ok)
       (λ (x : Accepted r at b d booked).
       let q = facts r ok in
+      let n = editionOf (r .contact) in
       let l = ratesOf (r .contact) in
       let o = found-offered r q (at .0) (b .size .0) (x .some) (x .place) (d .send) (x .found) in
-      let at-list = offered-at l (topOf l) (listed (r .free)) (x .place) _ _ _ o .0 in
-      let some = cut-some l (topOf l) (r .contact .window .end .0) (d .send .start .0) (d .send .end .0) (b .size .0) (listed (r .free)) (x .place) (omega (arith, at-list)) in
-      let rules = cut-listed l (topOf l) (r .contact .window .end .0) (d .send .start .0) (d .send .end .0) (b .size .0) (listed (r .free)) _ (x .place) (q .free) o in
+      let at-list = offered-at n l (topOf l) (listed (r .free)) (x .place) _ _ _ o .0 in
+      let some = cut-some n l (topOf l) (r .contact .window .end .0) (d .send .start .0) (d .send .end .0) (b .size .0) (listed (r .free)) (x .place) (omega (arith, at-list)) in
+      let rules = cut-listed n l (topOf l) (r .contact .window .end .0) (d .send .start .0) (d .send .end .0) (b .size .0) (listed (r .free)) _ (x .place) (q .free) o in
       rw (x .manager) (record-kept _ (q .test) (kept-in l _ _ _ some (x .few) rules) refl))
       book-cases

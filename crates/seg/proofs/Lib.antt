@@ -3,3 +3,4 @@ pub mod Calls
 pub mod Kept
 pub mod RoomBounds
 pub mod Unique
+pub mod Second

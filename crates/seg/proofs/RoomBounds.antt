@@ -11,7 +11,7 @@ use Rattle.units.specs.declared.TxData.{TxData}
 use Rattle.units.specs.declared.Bundle.{Bundle}
 use Rattle.units.specs.Limits.{volumeMax}
 use Rattle.segmentation.specs.Capacity.{capacity, topOf}
-use Rattle.contact.specs.Record.{ratesOf, totalIn}
+use Rattle.contact.specs.Record.{editionOf, ratesOf, totalIn}
 use Rattle.contact.proofs.Total.{window-total, span-most}
 use Rattle.free_list.specs.Cut.{listed}
 use Rattle.free_list.specs.Room.{listedCapacity}
@@ -43,14 +43,15 @@ module _ (r : FreeVolume) (ok : recordOk r ≡ true) where
   room-most = omega (arith, room-time, time-total, held .contact .total)
 
   -- so what any cut leaves fits
-  pub cut-roomy : (i : ℕ) (send : Interval) (v : ℕ) → Roomy (ratesOf (r .contact)) (r .free) i (send .start .0) (send .end .0) v (r .room .0)
+  pub cut-roomy : (i : ℕ) (send : Interval) (v : ℕ) → Roomy (editionOf (r .contact)) (ratesOf (r .contact)) (r .free) i (send .start .0) (send .end .0) v (r .room .0)
   cut-roomy i send v =
-      let most = cut-most (ratesOf (r .contact)) (send .start .0) (send .end .0) v volumeMax (span-most (r .contact) (held .contact)) (r .free) i in
+      let most = cut-most (editionOf (r .contact)) (ratesOf (r .contact)) (send .start .0) (send .end .0) v volumeMax (span-most (r .contact) (held .contact)) (r .free) i in
       record { is = held .room; small = omega (arith, most, held .room, room-most) }
 
-  -- an accepted booking: the exact capacity of the listed time falls at least by that of the send interval
+  -- an accepted booking: the exact capacity of the listed time falls at least by that of the send interval, and by no more if it has a length
   pub booked-falls : (at : Date) (b : Bundle) (d : TxData) → bookOf r at b d .number ≡ 0
-      → listedTime (bookOf r at b d .manager) + capacity (ratesOf (r .contact)) (d .send .start .0) (d .send .end .0) ≤ listedTime r
+      → (listedTime (bookOf r at b d .manager) + capacity (ratesOf (r .contact)) (d .send .start .0) (d .send .end .0) ≤ listedTime r)
+      × ((d .send .start .0 ≡ d .send .end .0 → ⊥) → listedTime (bookOf r at b d .manager) + capacity (ratesOf (r .contact)) (d .send .start .0) (d .send .end .0) ≡ listedTime r)
   booked-falls at b d zero =
       ⊎-elim
       (λ (x : Refused r (bookOf r at b d)). absurd (x .number zero))
@@ -58,5 +59,5 @@ module _ (r : FreeVolume) (ok : recordOk r ≡ true) where
       let l = ratesOf (r .contact) in
       let o = found-offered r held (at .0) (b .size .0) (x .some) (x .place) (d .send) (x .found) in
       let is : listedTime (bookOf r at b d .manager) ≡ _ = ap listedTime (x .manager) ∙ ap (listedCapacity l) (listed-in _) in
-      rw is (cut-capacity l (topOf l) (d .send .start .0) (d .send .end .0) (b .size .0) (listed (r .free)) (x .place) o))
+      rw is (cut-capacity (editionOf (r .contact)) l (topOf l) (d .send .start .0) (d .send .end .0) (b .size .0) (listed (r .free)) (x .place) o))
       (book-cases r at b d ok)

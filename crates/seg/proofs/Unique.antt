@@ -10,6 +10,7 @@ use Rattle.units.specs.declared.Volume.{Volume}
 use Rattle.units.proofs.Determined.{Determined}
 use Rattle.segmentation.specs.declared.RateSegment.{RateSegment}
 use Rattle.segmentation.specs.declared.DelaySegment.{DelaySegment}
+use Rattle.contact.specs.declared.Choices.{Choices}
 use Rattle.seg.specs.declared.FreeVolume.{FreeVolume}
 use Rattle.seg.proofs.FreeVolume.open.Reads as open-reads
 use Rattle.seg.proofs.FreeVolume.ok.Reads as ok-reads
@@ -23,8 +24,8 @@ use Rattle.seg.proofs.FreeVolume.list.Reads as list-reads
 use Rattle.seg.proofs.FreeVolume.room_kept.Reads as room-kept-reads
 use Rattle.seg.proofs.FreeVolume.room.Reads as room-reads
 
-pub open-unique : (w : Interval) (rates : List RateSegment) (m : ℕ) (delays : List DelaySegment) (k : ℕ) → Determined (open-reads.Post tt (w, (rates, (m, (delays, (k, tt))))))
-open-unique w rates m delays k r q x y f g = f ∙ sym g
+pub open-unique : (h : Choices) (w : Interval) (rates : List RateSegment) (m : ℕ) (delays : List DelaySegment) (k : ℕ) → Determined (open-reads.Post tt (h, (w, (rates, (m, (delays, (k, tt)))))))
+open-unique h w rates m delays k r q x y f g = f ∙ sym g
 
 module _ (self : FreeVolume) where
   pub ok-unique : Determined (ok-reads.Post tt (self, tt))

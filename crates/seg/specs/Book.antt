@@ -14,7 +14,7 @@ use Rattle.free_list.specs.declared.Cut.{Cut}
 use Rattle.free_list.specs.Cut.{cutList}
 use Rattle.seg.specs.declared.FreeVolume.{FreeVolume}
 use Rattle.seg.specs.declared.Booked.{Booked}
-use Rattle.contact.specs.Record.{ratesOf}
+use Rattle.contact.specs.Record.{ratesOf, editionOf}
 use Rattle.seg.specs.Record.{recordOk, withFree}
 use Rattle.seg.specs.DryRun.{dryRunOf, foundOf}
 
@@ -23,7 +23,7 @@ refusedBooking n r = record { number = n; manager = r }
 
 -- what a booking leaves of the record's list, or 10 and the list as it came
 abbrev pub cutFree : FreeVolume → ℕ → Interval → ℕ → Cut
-cutFree r i send v = cutList (ratesOf (r .contact)) (r .free) i (send .start .0) (send .end .0) v
+cutFree r i send v = cutList (editionOf (r .contact)) (ratesOf (r .contact)) (r .free) i (send .start .0) (send .end .0) v
 
 -- the record with the segment at a place cut, or 10 and the record as it came
 abbrev pub bookedOf : FreeVolume → ℕ → Interval → ℕ → Booked

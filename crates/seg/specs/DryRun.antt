@@ -6,9 +6,8 @@ use Rattle.units.specs.declared.Offer.{Offer}
 use Rattle.units.specs.Logic.{unless}
 use Rattle.units.specs.Limits.{bundleOk}
 use Rattle.units.specs.Answer.{refused}
-use Rattle.segmentation.specs.End.{endOf}
 use Rattle.segmentation.specs.Delay.{answerWith}
-use Rattle.contact.specs.Record.{ratesOf, delayList}
+use Rattle.contact.specs.Record.{endRule, delayList}
 use Rattle.free_list.specs.declared.Found.{Found}
 use Rattle.free_list.specs.declared.Found.the-variants.{At, None}
 use Rattle.free_list.specs.Offer.{offerOf}
@@ -18,7 +17,7 @@ use Rattle.seg.specs.Record.{recordOk}
 
 -- the listed segment and the send interval that are offered at t to a bundle of size v
 abbrev pub foundOf : FreeVolume → ℕ → ℕ → Found
-foundOf r t v = offerOf (endOf (ratesOf (r .contact))) (listed (r .free)) t v
+foundOf r t v = offerOf (endRule (r .contact)) (listed (r .free)) t v
 
 -- the number and the dates of what was found; 7 where nothing was
 abbrev pub answerTo : FreeVolume → Found → Offer

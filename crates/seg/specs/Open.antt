@@ -6,6 +6,7 @@ use Rattle.units.specs.declared.Interval.{Interval}
 use Rattle.units.specs.Logic.{unless}
 use Rattle.segmentation.specs.declared.RateSegment.{RateSegment}
 use Rattle.segmentation.specs.declared.DelaySegment.{DelaySegment}
+use Rattle.contact.specs.declared.Choices.{Choices}
 use Rattle.contact.specs.declared.Contact.{Contact}
 use Rattle.contact.specs.Open.{openContact, refusedContact}
 use Rattle.contact.specs.declared.Opened.{Opened as ContactOpened}
@@ -27,5 +28,5 @@ openedOf w o =
     (record { number = 0; manager = wholeOf (o .contact) w (o .total .0) })
 
 -- the opening
-unfoldable pub openOf : Interval → List RateSegment → ℕ → List DelaySegment → ℕ → Opened
-openOf w rates m delays k = openedOf w (openContact w rates m delays k)
+unfoldable pub openOf : Choices → Interval → List RateSegment → ℕ → List DelaySegment → ℕ → Opened
+openOf h w rates m delays k = openedOf w (openContact h w rates m delays k)

@@ -1,4 +1,5 @@
 // The free-volume manager (seg.rs: SegmentationManager): open, dry run, book, list.
+use contact::Choices;
 use contact::Contact;
 use free_list::Chosen;
 use free_list::Cut;
@@ -96,17 +97,18 @@ impl FreeVolume {
         }
     }
 
-    // new and try_init: 3, 4, 6, 5 in this order; the whole window is listed, with the total volume.
+    // new and try_init: 2 for a choice, then 3, 4, 6, 5 in this order; the whole window is listed, with the total volume.
     pub fn open(
+        choices: Choices,
         window: Interval,
         rates: [RateSegment; RateSegment::COUNT_MAX],
         rate_count: usize,
         delays: [DelaySegment; DelaySegment::COUNT_MAX],
         delay_count: usize,
     ) -> Opened
-        ensures { λ r. ⌜ r ≡ openOf window rates «rate_count» delays «delay_count» ⌝ }
+        ensures { λ r. ⌜ r ≡ openOf choices window rates «rate_count» delays «delay_count» ⌝ }
     {
-        let o = Contact::open(window, rates, rate_count, delays, delay_count);
+        let o = Contact::open(choices, window, rates, rate_count, delays, delay_count);
         let number = o.number;
         if number != 0 {
             return FreeVolume::refused_opening(number);
@@ -161,6 +163,8 @@ impl FreeVolume {
         }
         let contact = self.contact;
         let free = self.free;
+        let choices = contact.choices;
+        let edition = choices.edition;
         let window = contact.window;
         let rates = contact.rates;
         let m = contact.rate_count;
@@ -168,6 +172,7 @@ impl FreeVolume {
         let n = free.count;
         let size = bundle.size;
         let Found::At { place, send } = free_list::find_offer(
+            edition,
             rates,
             m,
             segments,
@@ -249,10 +254,12 @@ impl FreeVolume {
         ensures { λ r. ⌜ r ≡ cutFree self place send (size .0) ⌝ ∗ ⌜ Changes (self .room .0) r ⌝ }
     {
         let contact = self.contact;
+        let choices = contact.choices;
+        let edition = choices.edition;
         let rates = contact.rates;
         let m = contact.rate_count;
         let free = self.free;
-        free.cut(rates, m, place, send, size)
+        free.cut(edition, rates, m, place, send, size)
     }
 
     // The room on a record that keeps its rules.

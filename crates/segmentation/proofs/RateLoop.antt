@@ -1,5 +1,5 @@
 -- The states of the loops over the rate segments: what is left of the list has the answer that is asked.
-use Prim.Native.Nat.{ℕ, _+_, _-_, _*_, _/_, _<_, _≤_}
+use Prim.Native.Nat.{ℕ, _+_, _-_, _*_, _<_, _≤_}
 use mathlib.Core.Path.{_≡_, _∙_}
 use mathlib.Core.List.{List, [], _∷_}
 use native.Mathlib.Omega.{arith}
@@ -9,7 +9,7 @@ use Rattle.units.proofs.Loop.{Left, left-first, left-step, left-here, left-end}
 use Rattle.segmentation.specs.declared.VolumeSegment.{VolumeSegment}
 use Rattle.segmentation.specs.declared.End.{End}
 use Rattle.segmentation.specs.declared.End.the-variants.{None}
-use Rattle.segmentation.specs.Granted.{SegOk, Run, Runs, Covers}
+use Rattle.segmentation.specs.Granted.{SegOk, Run, Runs, Covers, ticksOf}
 use Rattle.segmentation.specs.Capacity.{rateOf, capacity}
 use Rattle.segmentation.specs.End.{byDeadline, endOf}
 use Rattle.segmentation.proofs.Capacity.{cap-add, cap-none}
@@ -66,21 +66,21 @@ module _ (l : List VolumeSegment) (n a b i sum : ℕ) (s : VolumeSegment) (q : A
       }
 
 -- `find_end`: the date and what is still to send.
-abbrev pub endFrom : ℕ → ℕ × ℕ → List VolumeSegment → End
-endFrom d s l = endOf l (s .0) (s .1) d
+abbrev pub endFrom : ℕ → ℕ → ℕ × ℕ → List VolumeSegment → End
+endFrom k d s l = endOf k l (s .0) (s .1) d
 
-pub record Seeking (l : List VolumeSegment) (n d a v i at rest : ℕ) : Type 0 where
-  pub left : Left (endFrom d) l n (a, v) i (at, rest)
+pub record Seeking (k : ℕ) (l : List VolumeSegment) (n d a v i at rest : ℕ) : Type 0 where
+  pub left : Left (endFrom k d) l n (a, v) i (at, rest)
   pub some : 0 < rest
   pub covers : Covers at (drop i l)
 
-pub seek-first : (l : List VolumeSegment) (n d a v : ℕ) → 0 < v → Covers a l → Seeking l n d a v 0 a v
-seek-first l n d a v p c = record { left = left-first _ _ _ _; some = p; covers = c }
+pub seek-first : (k : ℕ) (l : List VolumeSegment) (n d a v : ℕ) → 0 < v → Covers a l → Seeking k l n d a v 0 a v
+seek-first k l n d a v p c = record { left = left-first _ _ _ _; some = p; covers = c }
 
-pub seek-none : (l : List VolumeSegment) (n d a v i at rest : ℕ) → Seeking l n d a v i at rest → length l ≤ i → endOf l a v d ≡ None
-seek-none l n d a v i at rest q h = left-end (endFrom d) l n (a, v) i (at, rest) (q .left) h ∙ end-none at rest d (q .some)
+pub seek-none : (k : ℕ) (l : List VolumeSegment) (n d a v i at rest : ℕ) → Seeking k l n d a v i at rest → length l ≤ i → endOf k l a v d ≡ None
+seek-none k l n d a v i at rest q h = left-end (endFrom k d) l n (a, v) i (at, rest) (q .left) h ∙ end-none k at rest d (q .some)
 
-module _ (l : List VolumeSegment) (n d a v i at rest : ℕ) (s : VolumeSegment) (q : Seeking l n d a v i at rest) (here : drop i l ≡ s ∷ drop (i + 1) l) where
+module _ (k : ℕ) (l : List VolumeSegment) (n d a v i at rest : ℕ) (s : VolumeSegment) (q : Seeking k l n d a v i at rest) (here : drop i l ≡ s ∷ drop (i + 1) l) where
   seek-covers : Covers at (s ∷ drop (i + 1) l)
   seek-covers = rw here at (q .covers)
 
@@ -91,29 +91,29 @@ module _ (l : List VolumeSegment) (n d a v i at rest : ℕ) (s : VolumeSegment) 
   seek-from = omega (arith, run-from s (drop (i + 1) l) (seek-covers .from) (seek-covers .run), seek-covers .below)
 
   -- the segment covers the rest
-  pub seek-here : at ≤ s .end .0 → rest ≤ carriedOf s at → endOf l a v d ≡ byDeadline d (at + rest / rateOf s)
-  seek-here h k =
-      left-here (endFrom d) l n (a, v) i (at, rest) (q .left) s here ∙ end-here s (drop (i + 1) l) at rest d (q .some) seek-covers h k
+  pub seek-here : at ≤ s .end .0 → rest ≤ carriedOf s at → endOf k l a v d ≡ byDeadline d (at + ticksOf k rest (rateOf s))
+  seek-here h w =
+      left-here (endFrom k d) l n (a, v) i (at, rest) (q .left) s here ∙ end-here k s (drop (i + 1) l) at rest d (q .some) seek-covers h w
 
   -- the next turn's date and rest
   module _ (lt : i < n) (at′ rest′ : ℕ) where
     -- it ends before the date
-    pub seek-skip : s .end .0 < at → at′ ≡ at → rest′ ≡ rest → Seeking l n d a v (i + 1) at′ rest′
+    pub seek-skip : s .end .0 < at → at′ ≡ at → rest′ ≡ rest → Seeking k l n d a v (i + 1) at′ rest′
     seek-skip h e f =
         rw (e, f)
         (record {
-          left = left-step (endFrom d) l n (a, v) i (at, rest) (q .left) s here lt (at, rest) (end-skip s (drop (i + 1) l) at rest d (q .some) seek-covers h);
+          left = left-step (endFrom k d) l n (a, v) i (at, rest) (q .left) s here lt (at, rest) (end-skip k s (drop (i + 1) l) at rest d (q .some) seek-covers h);
           some = q .some;
-          covers = next-covers s (drop (i + 1) l) at rest d (q .some) seek-covers at (omega arith);
+          covers = next-covers k s (drop (i + 1) l) at rest d (q .some) seek-covers at (omega arith);
         })
 
     -- it is used up
-    pub seek-on : at ≤ s .end .0 → carriedOf s at < rest → at′ ≡ s .end .0 → rest′ ≡ rest - carriedOf s at → Seeking l n d a v (i + 1) at′ rest′
-    seek-on h k e f =
+    pub seek-on : at ≤ s .end .0 → carriedOf s at < rest → at′ ≡ s .end .0 → rest′ ≡ rest - carriedOf s at → Seeking k l n d a v (i + 1) at′ rest′
+    seek-on h w e f =
         rw (e, f)
         (record {
-          left = left-step (endFrom d) l n (a, v) i (at, rest) (q .left) s here lt (s .end .0, rest - carriedOf s at)
-              (end-on s (drop (i + 1) l) at rest d (q .some) seek-covers h k);
+          left = left-step (endFrom k d) l n (a, v) i (at, rest) (q .left) s here lt (s .end .0, rest - carriedOf s at)
+              (end-on k s (drop (i + 1) l) at rest d (q .some) seek-covers h w);
           some = omega arith;
-          covers = next-covers s (drop (i + 1) l) at rest d (q .some) seek-covers (s .end .0) (omega arith);
+          covers = next-covers k s (drop (i + 1) l) at rest d (q .some) seek-covers (s .end .0) (omega arith);
         })

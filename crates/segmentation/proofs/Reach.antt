@@ -58,11 +58,11 @@ module _ (l : List VolumeSegment) (a v : ℕ) where
   reach-is (suc n) = more n (reachOf l a v n) (reach-is n)
 
 -- The end made of what the search finds.
-module _ (l : List VolumeSegment) (a v d : ℕ) where
-  pub end-by : (m : ℕ) (r : Reach) → r ≡ by (a + m) → endBy l a v d r ≡ byDeadline d (roundOf (capOf l a m) v (a + m))
+module _ (k : ℕ) (l : List VolumeSegment) (a v d : ℕ) where
+  pub end-by : (m : ℕ) (r : Reach) → r ≡ by (a + m) → endBy k l a v d r ≡ byDeadline d (roundOf k (capOf l a m) v (a + m))
   end-by m r e =
       let q : (a + m) - a ≡ m = omega arith in
-      ap (λ (x : Reach). endBy l a v d x) e ∙ ap (λ (x : ℕ). byDeadline d (roundOf (capOf l a x) v (a + m))) q
+      ap (λ (x : Reach). endBy k l a v d x) e ∙ ap (λ (x : ℕ). byDeadline d (roundOf k (capOf l a x) v (a + m))) q
 
-  pub end-never : (r : Reach) → r ≡ never → endBy l a v d r ≡ None
-  end-never r e = ap (λ (x : Reach). endBy l a v d x) e
+  pub end-never : (r : Reach) → r ≡ never → endBy k l a v d r ≡ None
+  end-never r e = ap (λ (x : Reach). endBy k l a v d x) e

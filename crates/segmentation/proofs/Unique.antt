@@ -9,6 +9,7 @@ use Rattle.units.specs.declared.Volume.{Volume}
 use Rattle.units.specs.declared.Interval.{Interval}
 use Rattle.units.proofs.Determined.{Determined}
 use Rattle.units.proofs.Unique.{date-is, volume-is}
+use Rattle.segmentation.specs.declared.Edition.{Edition}
 use Rattle.segmentation.specs.declared.VolumeSegment.{VolumeSegment}
 use Rattle.segmentation.specs.declared.DelaySegment.{DelaySegment}
 use Rattle.segmentation.specs.declared.Delays.{Delays}
@@ -28,8 +29,8 @@ module _ (self : VolumeSegment) (from : Date) where
   pub carried-unique : Determined (carried-reads.Post tt (self, (from, tt)))
   carried-unique r q x y f g = volume-is r q _ f g
 
-  pub sent-unique : (rest : Volume) → Determined (sent-reads.Post tt (self, (from, (rest, tt))))
-  sent-unique rest r q x y f g = date-is r q _ f g
+  pub sent-unique : (edition : Edition) (rest : Volume) → Determined (sent-reads.Post tt (self, (edition, (from, (rest, tt)))))
+  sent-unique edition rest r q x y f g = date-is r q _ f g
 
   pub part-unique : (end : Date) → Determined (part-reads.Post tt (self, (from, (end, tt))))
   part-unique end r q x y f g = volume-is r q _ (f .0) (g .0)
@@ -38,8 +39,8 @@ pub by-deadline-unique : (end deadline : Date) → Determined (by-deadline-reads
 by-deadline-unique end deadline r q x y f g = f ∙ sym g
 
 module _ (rates : List VolumeSegment) (count : ℕ) (start : Date) where
-  pub find-end-unique : (size : Volume) (deadline : Date) → Determined (find-end-reads.Post tt (rates, (count, (start, (size, (deadline, tt))))))
-  find-end-unique size deadline r q x y f g = f ∙ sym g
+  pub find-end-unique : (edition : Edition) (size : Volume) (deadline : Date) → Determined (find-end-reads.Post tt (edition, (rates, (count, (start, (size, (deadline, tt)))))))
+  find-end-unique edition size deadline r q x y f g = f ∙ sym g
 
   pub volume-between-unique : (end : Date) → Determined (volume-between-reads.Post tt (rates, (count, (start, (end, tt)))))
   volume-between-unique end r q x y f g = volume-is r q _ f g

@@ -1,4 +1,4 @@
--- 01, "Rounding and lookup", End, in its exact terms.
+-- 01, "Rounding and lookup", End, in its exact terms (edition 1), and 02's R-5 (edition 2).
 use Prim.Native.Nat.{ℕ, zero, suc, _+_, _-_}
 use mathlib.Core.List.{List, [], _∷_}
 use lib.Dec.{leb, eqb}
@@ -27,18 +27,18 @@ unfoldable pub closeOf : ℕ → List VolumeSegment → ℕ
 closeOf a [] = a
 closeOf a (s ∷ l) = closeOf (s .end .0) l
 
--- u if the capacity equals the size there, else u - 1
-abbrev pub roundOf : ℕ → ℕ → ℕ → ℕ
-roundOf c v u = pick (eqb c v) u (u - 1)
+-- edition 2: u itself; edition 1: u if the capacity c equals the size there, else u - 1
+abbrev pub roundOf : ℕ → ℕ → ℕ → ℕ → ℕ
+roundOf edition c v u = pick (eqb edition 2) u (pick (eqb c v) u (u - 1))
 
 -- accepted if not after the deadline
 abbrev pub byDeadline : ℕ → ℕ → End
 byDeadline d e = pick (leb e d) (At (record { 0 = e })) None
 
-abbrev pub endBy : List VolumeSegment → ℕ → ℕ → ℕ → Reach → End
-endBy l a v d (by u) = byDeadline d (roundOf (capacity l a u) v u)
-endBy l a v d never = None
+abbrev pub endBy : ℕ → List VolumeSegment → ℕ → ℕ → ℕ → Reach → End
+endBy edition l a v d (by u) = byDeadline d (roundOf edition (capacity l a u) v u)
+endBy edition l a v d never = None
 
 -- the end of a send of size v from a on, by the deadline d; none where no tick of the window is u
-unfoldable pub endOf : List VolumeSegment → ℕ → ℕ → ℕ → End
-endOf l a v d = endBy l a v d (reachOf l a v (closeOf a l - a))
+unfoldable pub endOf : ℕ → List VolumeSegment → ℕ → ℕ → ℕ → End
+endOf edition l a v d = endBy edition l a v d (reachOf l a v (closeOf a l - a))

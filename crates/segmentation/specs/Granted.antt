@@ -1,9 +1,11 @@
 -- What the rules take for granted of their segments: a record's test shows it before they are called. No promise rests on it.
-use Prim.Native.Nat.{ℕ, _+_, _-_, _*_, _<_, _≤_}
+use Prim.Native.Nat.{ℕ, _+_, _-_, _*_, _/_, _<_, _≤_}
 use mathlib.Core.Path.{_≡_}
 use mathlib.Core.List.{List, [], _∷_}
+use lib.Dec.{eqb}
 use lib.ListN.{drop}
 use Rattle.units.specs.Limits.{dateMax, lengthMax, volumeMax, delayMax}
+use Rattle.units.specs.Logic.{pick}
 use Rattle.segmentation.specs.declared.VolumeSegment.{VolumeSegment}
 use Rattle.segmentation.specs.declared.DelaySegment.{DelaySegment}
 use Rattle.segmentation.specs.declared.Delays.{Delays}
@@ -34,6 +36,10 @@ pub record Covers (a : ℕ) (l : List VolumeSegment) : Type 0 where
   pub from : ℕ
   pub below : from ≤ a
   pub run : Run from l
+
+-- the ticks that a size above 0 takes at a rate: rounded up in edition 2, else down
+abbrev pub ticksOf : ℕ → ℕ → ℕ → ℕ
+ticksOf edition v r = pick (eqb edition 2) ((v - 1) / r + 1) (v / r)
 
 -- delays within their limits
 abbrev pub Short : Delays → Type 0

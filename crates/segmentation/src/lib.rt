@@ -8,13 +8,35 @@ use units::TxData;
 use units::Volume;
 ghost use mathlib.Core.Path.{_≡_};
 ghost use Prim.Native.Nat.{ℕ, _+_, _-_, _*_, _/_, _<_, _≤_, min, max};
+ghost use lib.Dec.{eqb};
 ghost use lib.ListN.{length, take, drop};
 ghost use mathlib.Core.List.{List, [], _∷_};
 ghost use Rattle.units.specs.Limits.{dateMax, volumeMax, segmentsMax};
+ghost use Rattle.units.specs.Logic.{pick};
 ghost use Rattle.segmentation.specs.Capacity.{rateOf, capacity};
 ghost use Rattle.segmentation.specs.End.{byDeadline, endOf};
 ghost use Rattle.segmentation.specs.Delay.{delaysOf, answerOf, answerWith};
-ghost use Rattle.segmentation.specs.Granted.{SegOk, Covers, Runs, Short, AllShort, Placed};
+ghost use Rattle.segmentation.specs.Granted.{SegOk, Covers, Runs, Short, AllShort, Placed, ticksOf};
+
+// The edition of the end rule: 1 is the source's, 2 ends a send when its final unit has left.
+#[repr(C)]
+pub struct Edition(pub u64);
+
+impl Edition {
+    pub const FIRST: u64 = 1;
+
+    pub const SECOND: u64 = 2;
+
+    // What a part of a tick counts: a whole one in edition 2, else nothing.
+    fn part(self) -> u64
+        ensures { λ r. ⌜ r ≡ pick (eqb (self .0) 2) 1 0 ⌝ }
+    {
+        if self.0 == Edition::SECOND {
+            return 1;
+        }
+        0
+    }
+}
 
 // Segment<DataRate>: what an opening is given.
 #[repr(C)]
@@ -77,13 +99,14 @@ impl VolumeSegment {
         Volume(self.volume.0 - rate.0 * (from.0 - self.start.0))
     }
 
-    // From a volume to a date: when the rest is sent that starts at the date and that the segment covers.
-    pub fn sent(self, from: Date, rest: Volume) -> Date
+    // From a volume to a date: when the rest is sent that starts at the date and that the segment covers, rounded down in edition 1 and up in edition 2: one division for both.
+    pub fn sent(self, edition: Edition, from: Date, rest: Volume) -> Date
         requires { ⌜ SegOk self ⌝ ∗ ⌜ (from .0 ≤ self .end .0) × ((0 < rest .0) × (rest .0 ≤ self .volume .0)) ⌝ }
-        ensures { λ r. ⌜ r .0 ≡ from .0 + rest .0 / rateOf self ⌝ }
+        ensures { λ r. ⌜ r .0 ≡ from .0 + ticksOf (edition .0) (rest .0) (rateOf self) ⌝ }
     {
         let rate = self.rate();
-        Date(from.0 + rest.0 / rate.0)
+        let part = edition.part();
+        Date(from.0 + ((rest.0 - part) / rate.0 + part))
     }
 
     // What the segment carries between two dates.
@@ -114,6 +137,7 @@ pub fn by_deadline(end: Date, deadline: Date) -> End
 
 // get_tx_end: the end of a send of this size from this start, by the deadline, or none.
 pub fn find_end(
+    edition: Edition,
     rates: [VolumeSegment; RateSegment::COUNT_MAX],
     count: usize,
     start: Date,
@@ -121,7 +145,7 @@ pub fn find_end(
     deadline: Date,
 ) -> End
     requires { ⌜ count ≤ segmentsMax ⌝ ∗ ⌜ 0 < size .0 ⌝ ∗ ⌜ Covers (start .0) (take count rates) ⌝ }
-    ensures { λ r. ⌜ r ≡ endOf (take count rates) (start .0) (size .0) (deadline .0) ⌝ }
+    ensures { λ r. ⌜ r ≡ endOf (edition .0) (take count rates) (start .0) (size .0) (deadline .0) ⌝ }
 {
     let mut i: usize = 0;
     let mut at = start;
@@ -134,7 +158,7 @@ pub fn find_end(
         if at.0 <= s.end.0 {
             let here = s.carried(at);
             if rest.0 <= here.0 {
-                break by_deadline(s.sent(at, rest), deadline);
+                break by_deadline(s.sent(edition, at, rest), deadline);
             }
             rest = Volume(rest.0 - here.0);
             at = s.end;

@@ -8,9 +8,9 @@ use borrow.Author.Tests.{eqb-true, eq-eqb, ne-eqb}
 use Rattle.units.specs.declared.Offer.{Offer}
 use Rattle.units.specs.declared.TxData.{TxData}
 use Rattle.units.specs.Logic.{unless, pick}
-use Rattle.units.specs.Answer.{offers}
+use Rattle.units.specs.Answer.{refused, offers}
 use Rattle.units.specs.Granted.{refusalOf}
-use Rattle.units.proofs.Logic.{no-both, both-fst, unless-go, unless-stop}
+use Rattle.units.proofs.Logic.{both-fst, unless-go, unless-stop}
 use Rattle.units.proofs.Choice.{pick-yes, pick-no}
 
 module _ (o : Offer) (d : TxData) where
@@ -56,3 +56,10 @@ module _ {B : Type 0} (o : Offer) (d : TxData) (fits : Bool) (refuse : ℕ → B
 
   pub booking-fits : refusalOf o d ≡ 0 → fits ≡ true
   booking-fits none = fits-by fits refl none
+
+-- a dry run that answers 0 has passed both tests, and its answer is that of what was found
+pub answer-done : (ok fits : Bool) (o : Offer) → unless ok (refused 1) (unless fits (refused 2) o) .number ≡ 0
+    → (ok ≡ true) × (fits ≡ true) × (unless ok (refused 1) (unless fits (refused 2) o) ≡ o)
+answer-done true true o z = (refl, refl, refl)
+answer-done true false o z = absurd (omega (arith, z))
+answer-done false fits o z = absurd (omega (arith, z))

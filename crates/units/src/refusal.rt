@@ -3,6 +3,9 @@ pub const RECORD: u8 = 1;
 
 pub const BUNDLE: u8 = 2;
 
+// 02: a choice at an opening that there is not has the same number.
+pub const CHOICE: u8 = BUNDLE;
+
 pub const WINDOW: u8 = 3;
 
 pub const RATES: u8 = 4;

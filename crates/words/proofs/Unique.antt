@@ -14,6 +14,8 @@ use Rattle.segmentation.proofs.Unique as segmentation-unique
 use Rattle.words.specs.Words.{volumesIn, delayFrom, delaysIn}
 use Rattle.words.proofs.Threes.{threes-length}
 use Rattle.words.proofs.Numbers.{same-numbers}
+use Rattle.words.proofs.choices_at.Kinds as choices-at-kinds
+use Rattle.words.proofs.choices_at.Reads as choices-at-reads
 use Rattle.words.proofs.rate_at.Kinds as rate-at-kinds
 use Rattle.words.proofs.rate_at.Reads as rate-at-reads
 use Rattle.words.proofs.delay_at.Kinds as delay-at-kinds
@@ -38,6 +40,9 @@ abbrev pub Leaves : {X : Type 0} → (X → List ℕ) → (X → Type 0) → Lis
 Leaves behind P l x = (l ≡ behind x) × (length l ≡ 3 * listedMax) × P x
 
 module _ (κs : Lfts 1) where
+  pub choices-at-unique : (a : Dens κs choices-at-kinds.ps) → Determined (choices-at-reads.Post κs a)
+  choices-at-unique a r q x y f g = f ∙ sym g
+
   pub rate-at-unique : (a : Dens κs rate-at-kinds.ps) → Determined (rate-at-reads.Post κs a)
   rate-at-unique a r q x y f g = f ∙ sym g
 

@@ -1,8 +1,10 @@
--- Lists of segments as they lie in memory: three numbers to a segment, its start, its end and its volume or delay.
+-- Lists of segments as they lie in memory: three numbers to a segment, its start, its end and its volume or delay; and choices, a number to each.
 use Prim.Native.Nat.{ℕ}
 use mathlib.Core.List.{List, [], _∷_}
+use lib.ListN.{getD}
 use Rattle.segmentation.specs.declared.VolumeSegment.{VolumeSegment}
 use Rattle.segmentation.specs.declared.DelaySegment.{DelaySegment}
+use Rattle.contact.specs.declared.Choices.{Choices}
 
 -- what the numbers, taken in threes, make
 unfoldable pub threes : {A : Type 0} → (ℕ → ℕ → ℕ → A) → List ℕ → List A
@@ -26,3 +28,7 @@ volumesIn l = threes volumeFrom l
 -- the delay segments that the numbers are
 abbrev pub delaysIn : List ℕ → List DelaySegment
 delaysIn l = threes delayFrom l
+
+-- the choices that the numbers are
+abbrev pub choicesIn : List ℕ → Choices
+choicesIn l = record { edition = record { 0 = getD l 0 0 } }

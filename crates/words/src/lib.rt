@@ -1,6 +1,8 @@
 // Segments lent as numbers, three to a segment, and the rounding and lookup rules over them: no array is copied.
+use contact::Choices;
 use segmentation::DelaySegment;
 use segmentation::Delays;
+use segmentation::Edition;
 use segmentation::End;
 use segmentation::VolumeSegment;
 use units::Date;
@@ -17,15 +19,27 @@ ghost use Rattle.segmentation.specs.End.{endOf};
 ghost use Rattle.segmentation.specs.Delay.{delaysOf, answerWith};
 ghost use Rattle.segmentation.specs.Granted.{Covers, Runs, AllShort, Placed};
 ghost use Rattle.contact.specs.Segments.{zeroVolume, zeroDelay};
-ghost use Rattle.words.specs.Words.{volumesIn, delaysIn};
+ghost use Rattle.words.specs.Words.{choicesIn, volumesIn, delaysIn};
 
 // The numbers of as many segments as a record has places for, three to a segment.
 pub const SEGMENTS: usize = 3 * Interval::SEGMENTS_MAX;
 
 pub const LISTED: usize = 3 * Interval::LISTED_MAX;
 
+// The numbers of a record's choices, one to a choice.
+pub const CHOICES: usize = 1;
+
 // Lent as a slice, an array tells its length; no code is left of it.
 fn told(words: &[u64]) {}
+
+// The choices of these numbers.
+pub fn choices_at(choices: &[u64; CHOICES]) -> Choices
+    ensures { λ r. ⌜ r ≡ choicesIn (now (choices .entry)) ⌝ }
+{
+    Choices {
+        edition: Edition(choices[0]),
+    }
+}
 
 // The rate segment at a place.
 pub fn rate_at(rates: &[u64; SEGMENTS], i: usize) -> VolumeSegment
@@ -83,6 +97,7 @@ pub fn put_at(free: &mut [u64; LISTED], i: usize, s: VolumeSegment)
 
 // get_tx_end: the end of a send of this size from this start, by the deadline, or none.
 pub fn find_end(
+    edition: Edition,
     rates: &[u64; SEGMENTS],
     count: usize,
     start: Date,
@@ -90,7 +105,7 @@ pub fn find_end(
     deadline: Date,
 ) -> End
     requires { ⌜ count ≤ segmentsMax ⌝ ∗ ⌜ 0 < size .0 ⌝ ∗ ⌜ Covers (start .0) (take count (volumesIn (now rates))) ⌝ }
-    ensures { λ r. ⌜ r ≡ endOf (take count (volumesIn (now (rates .entry)))) (start .0) (size .0) (deadline .0) ⌝ }
+    ensures { λ r. ⌜ r ≡ endOf (edition .0) (take count (volumesIn (now (rates .entry)))) (start .0) (size .0) (deadline .0) ⌝ }
 {
     told(rates);
     let mut i: usize = 0;
@@ -104,7 +119,7 @@ pub fn find_end(
         if at.0 <= s.end.0 {
             let here = s.carried(at);
             if rest.0 <= here.0 {
-                break segmentation::by_deadline(s.sent(at, rest), deadline);
+                break segmentation::by_deadline(s.sent(edition, at, rest), deadline);
             }
             rest = Volume(rest.0 - here.0);
             at = s.end;

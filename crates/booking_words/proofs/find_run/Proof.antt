@@ -20,11 +20,11 @@ use Rattle.booking_words.proofs.find_run.Statement.{statement}
 use Rattle.booking_words.proofs.find_run.Tie as tie
 
 abbrev Inv-loop : tie.InvT-loop
-Inv-loop rates m bookings n asked size priority deadline i₀ going₀ run₀ i going run =
-    Left (searchOn (ruleOf (take m (volumesIn rates)) (size .0) (deadline .0)) (asked .0) (priority .0)) (take n (bookingsIn bookings)) n Idle i (stateOf going run)
+Inv-loop edition rates m bookings n asked size priority deadline i₀ going₀ run₀ i going run =
+    Left (searchOn (ruleOf (edition .0) (take m (volumesIn rates)) (size .0) (deadline .0)) (asked .0) (priority .0)) (take n (bookingsIn bookings)) n Idle i (stateOf going run)
 
 abbrev μ-loop : tie.MeasureT-loop
-μ-loop rates m bookings n asked size priority deadline i₀ going₀ run₀ i going run = n - i
+μ-loop edition rates m bookings n asked size priority deadline i₀ going₀ run₀ i going run = n - i
 
 size-of : (c : tie.After-told-arg Inv-loop μ-loop) → length (c .before .args .bookings .now) ≡ 3 * listedMax
 size-of c = search needs

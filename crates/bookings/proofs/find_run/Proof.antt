@@ -15,14 +15,14 @@ use Rattle.bookings.proofs.find_run.Statement.{statement}
 use Rattle.bookings.proofs.find_run.Tie as tie
 
 abbrev Inv-loop : tie.InvT-loop
-Inv-loop rates m n asked size priority segments deadline i₀ going₀ run₀ i going run =
-    Left (searchOn (ruleOf (take m rates) (size .0) (deadline .0)) (asked .0) (priority .0)) (take n segments) n Idle i (stateOf going run)
+Inv-loop edition rates m n asked size priority segments deadline i₀ going₀ run₀ i going run =
+    Left (searchOn (ruleOf (edition .0) (take m rates) (size .0) (deadline .0)) (asked .0) (priority .0)) (take n segments) n Idle i (stateOf going run)
 
 abbrev μ-loop : tie.MeasureT-loop
-μ-loop rates m n asked size priority segments deadline i₀ going₀ run₀ i going run = n - i
+μ-loop edition rates m n asked size priority segments deadline i₀ going₀ run₀ i going run = n - i
 
-size : (c : tie.Start Inv-loop μ-loop) → c .args .n ≤ length (c .args .t4)
-size c = let e : length (c .args .t4) ≡ listedMax = search needs in omega arith
+size : (c : tie.Start Inv-loop μ-loop) → c .args .n ≤ length (c .args .t5)
+size c = let e : length (c .args .t5) ≡ listedMax = search needs in omega arith
 
 inside : (c : tie.Else1 Inv-loop μ-loop) → c .before .before .loop .i < c .before .before .before .before .args .n
 inside c = omega (arith, c .if1 .left)

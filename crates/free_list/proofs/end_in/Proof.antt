@@ -11,7 +11,7 @@ use Rattle.free_list.proofs.end_in.Statement.{statement}
 use Rattle.free_list.proofs.end_in.Tie as tie
 
 abbrev rule : (c : tie.Start) → Rule
-rule c = endOf (take (c .args .m) (c .args .rates))
+rule c = endOf (c .args .edition .0) (take (c .args .m) (c .args .rates))
 
 returns : tie.Need-returns
 returns c =

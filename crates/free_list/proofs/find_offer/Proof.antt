@@ -19,35 +19,35 @@ use Rattle.free_list.proofs.find_offer.Statement.{statement}
 use Rattle.free_list.proofs.find_offer.Tie as tie
 
 abbrev Inv-loop : tie.InvT-loop
-Inv-loop rates m n asked size segments i₀ i = Left (loopOf (endOf (take m rates)) (asked .0) (size .0)) (take n segments) n 0 i i
+Inv-loop edition rates m n asked size segments i₀ i = Left (loopOf (endOf (edition .0) (take m rates)) (asked .0) (size .0)) (take n segments) n 0 i i
 
 abbrev μ-loop : tie.MeasureT-loop
-μ-loop rates m n asked size segments i₀ i = n - i
+μ-loop edition rates m n asked size segments i₀ i = n - i
 
-room : (c : tie.Start Inv-loop μ-loop) → c .args .n ≤ length (c .args .t3)
-room c = let e : length (c .args .t3) ≡ listedMax = search needs in omega arith
+room : (c : tie.Start Inv-loop μ-loop) → c .args .n ≤ length (c .args .t4)
+room c = let e : length (c .args .t4) ≡ listedMax = search needs in omega arith
 
 abbrev rule : (c : tie.Start Inv-loop μ-loop) → Rule
-rule c = endOf (take (c .args .m) (c .args .rates))
+rule c = endOf (c .args .edition .0) (take (c .args .m) (c .args .rates))
 
 kept : (c : tie.Start Inv-loop μ-loop)
-    → Listed (take (c .args .m) (c .args .rates)) (c .args .window .start .0) (c .args .window .end .0) (take (c .args .n) (c .args .t3))
+    → Listed (take (c .args .m) (c .args .rates)) (c .args .window .start .0) (c .args .window .end .0) (take (c .args .n) (c .args .t4))
 kept c = listed-true _ _ _ _ (c .pre .1 .1 .1 .1)
 
 -- the offer is what the loop finds
 asked : (c : tie.Start Inv-loop μ-loop)
-    → loopOf (rule c) (c .args .asked .0) (c .args .size .0) 0 (take (c .args .n) (c .args .t3))
-    ≡ offerOf (rule c) (take (c .args .n) (c .args .t3)) (c .args .asked .0) (c .args .size .0)
+    → loopOf (rule c) (c .args .asked .0) (c .args .size .0) 0 (take (c .args .n) (c .args .t4))
+    ≡ offerOf (rule c) (take (c .args .n) (c .args .t4)) (c .args .asked .0) (c .args .size .0)
 asked c = offer-is-loop _ _ _ _ _ _ _ (kept c)
 
 -- the segment at the loop's place starts in the window
 inside : (c : tie.Else1 Inv-loop μ-loop)
-    → c .before .before .args .window .start .0 ≤ getD (c .before .before .args .t3) (c .before .loop .i) zeroVolume .start .0
+    → c .before .before .args .window .start .0 ≤ getD (c .before .before .args .t4) (c .before .loop .i) zeroVolume .start .0
 inside c =
     let a = c .before .before in
     let lt : c .before .loop .i < a .args .n = c .if1 .left in
-    let len : c .before .loop .i < length (take (a .args .n) (a .args .t3)) = simp length-take (omega (arith, room a)) in
-    rw (getD-take (a .args .n) (a .args .t3) (c .before .loop .i) zeroVolume lt) at (listed-low _ _ _ _ _ zeroVolume len (kept a))
+    let len : c .before .loop .i < length (take (a .args .n) (a .args .t4)) = simp length-take (omega (arith, room a)) in
+    rw (getD-take (a .args .n) (a .args .t4) (c .before .loop .i) zeroVolume lt) at (listed-low _ _ _ _ _ zeroVolume len (kept a))
 
 loop-holds : tie.Need-loop-holds Inv-loop μ-loop
 loop-holds c = left-first _ _ _ _

@@ -26,7 +26,7 @@ inside c = c .pre .1 .1 .0
 -- the room is the list's, and what the cut leaves fits
 roomy : (c : tie.Start) →
     let a = c .args in
-    Roomy (take (a .m) (volumesIn (a .rates .now))) (freeIn (a .free .now) (a .count .now)) (a .place) (a .send .start .0) (a .send .end .0) (a .size .0) (a .room .now)
+    Roomy (a .edition .0) (take (a .m) (volumesIn (a .rates .now))) (freeIn (a .free .now) (a .count .now)) (a .place) (a .send .start .0) (a .send .end .0) (a .size .0) (a .room .now)
 roomy c = c .pre .1 .1 .1
 
 -- where the length is told, from where the segment is read; that place, from the test
@@ -58,14 +58,15 @@ returns c = c .cut-inside .ensures
 rest-requires : tie.Need-rest-requires
 rest-requires c κs =
     let r = read (c .before .before) in
-    rw (r .listed-at .ensures) (inside (start r) .room)
+    let p = start r .pre in
+    (p .0, (p .1 .0, rw (r .listed-at .ensures) (inside (start r) .room)))
 
 changed-requires : tie.Need-changed-requires
 changed-requires c κs =
     let kept = c .before .before in
     let one = kept .before .before in
     let r = read (one .before) in
-    makes-start _ _ _ _ _ _ (size (told r)) (inside (start r)) _ (r .listed-at .ensures) _ (roomy (start r)) _ (one .if1 .left) (kept .rest .ensures) .asks
+    makes-start _ _ _ _ _ _ _ (size (told r)) (inside (start r)) _ (r .listed-at .ensures) _ (roomy (start r)) _ (one .if1 .left) (kept .rest .ensures) .asks
 
 put-at-requires : tie.Need-put-at-requires
 put-at-requires c κs =
@@ -77,8 +78,8 @@ returns-2 c =
     let kept = next .before .before .before in
     let one = kept .before .before in
     let r = read (one .before) in
-    let left = leaves-start _ _ _ _ _ _ (size (told r)) (inside (start r)) _ (r .listed-at .ensures) _ _ (one .if1 .left) (c .put-at .ensures) (kept .rest .ensures) in
-    let made = makes-start _ _ _ _ _ _ (size (told r)) (inside (start r)) _ (r .listed-at .ensures) _ (roomy (start r)) _ (one .if1 .left) (kept .rest .ensures) in
+    let left = leaves-start _ _ _ _ _ _ _ (size (told r)) (inside (start r)) _ (r .listed-at .ensures) _ _ (one .if1 .left) (c .put-at .ensures) (kept .rest .ensures) in
+    let made = makes-start _ _ _ _ _ _ _ (size (told r)) (inside (start r)) _ (r .listed-at .ensures) _ (roomy (start r)) _ (one .if1 .left) (kept .rest .ensures) in
     (left .0, (left .1, made-is made (next .changed .ensures) (left .1)))
 
 pub cut-spec : {M : Type 1} → statement M

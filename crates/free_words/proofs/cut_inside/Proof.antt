@@ -27,7 +27,7 @@ inside c = c .pre .1 .1 .0
 -- the room is the list's, and what the cut leaves fits
 roomy : (c : tie.Start) →
     let a = c .args in
-    Roomy (take (a .m) (volumesIn (a .rates .now))) (freeIn (a .free .now) (a .count .now)) (a .place) (a .send .start .0) (a .send .end .0) (a .size .0) (a .room .now)
+    Roomy (a .edition .0) (take (a .m) (volumesIn (a .rates .now))) (freeIn (a .free .now) (a .count .now)) (a .place) (a .send .start .0) (a .send .end .0) (a .size .0) (a .room .now)
 roomy c = c .pre .1 .1 .1 .0
 
 -- where the length is told, from where the segment is read; that place, from where the first part is made and from where the second is
@@ -61,7 +61,7 @@ changed-requires c κs =
     let one = c .before in
     let before = one .before .before .before .before in
     let r = read before in
-    makes-flat _ _ _ _ _ _ (size (told r)) (inside (start r)) _ (r .listed-at .ensures) _ (roomy (start r)) (apart r) _ (before .stretch .ensures) (one .if1 .taken) .asks
+    makes-flat _ _ _ _ _ _ _ (size (told r)) (inside (start r)) _ (r .listed-at .ensures) _ (roomy (start r)) (apart r) _ (before .stretch .ensures) (one .if1 .taken) .asks
 
 put-at-requires : tie.Need-put-at-requires
 put-at-requires c κs =
@@ -73,8 +73,8 @@ returns c =
     let one = next .before .before in
     let before = one .before .before .before .before in
     let r = read before in
-    let left = leaves-flat _ _ _ _ _ _ (size (told r)) (inside (start r)) _ (r .listed-at .ensures) (apart r) _ (before .stretch .ensures) _ (one .if1 .taken) (c .put-at .ensures) in
-    let made = makes-flat _ _ _ _ _ _ (size (told r)) (inside (start r)) _ (r .listed-at .ensures) _ (roomy (start r)) (apart r) _ (before .stretch .ensures) (one .if1 .taken) in
+    let left = leaves-flat _ _ _ _ _ _ _ (size (told r)) (inside (start r)) _ (r .listed-at .ensures) (apart r) _ (before .stretch .ensures) _ (one .if1 .taken) (c .put-at .ensures) in
+    let made = makes-flat _ _ _ _ _ _ _ (size (told r)) (inside (start r)) _ (r .listed-at .ensures) _ (roomy (start r)) (apart r) _ (before .stretch .ensures) (one .if1 .taken) in
     (left .0, (left .1, made-is made (next .changed .ensures) (left .1)))
 
 returns-2 : tie.Need-returns-2
@@ -82,7 +82,7 @@ returns-2 c =
     let one = c .before in
     let before = one .before .before .before .before in
     let r = read before in
-    let left = leaves-full _ _ _ _ _ _ (size (told r)) (inside (start r)) _ (r .listed-at .ensures) (apart r) _ (before .stretch .ensures) (one .if1 .left) (omega (arith, c .if2 .taken)) in
+    let left = leaves-full _ _ _ _ _ _ _ (size (told r)) (inside (start r)) _ (r .listed-at .ensures) (apart r) _ (before .stretch .ensures) (one .if1 .left) (omega (arith, c .if2 .taken)) in
     (left .0, (left .1, roomy (start r) .is))
 
 stretch-requires-2 : tie.Need-stretch-requires-2
@@ -95,16 +95,16 @@ made-two : (c : tie.After-stretch2) →
     let s = start (read before) in
     let a = s .args in
     Made (a .room .now) (read before .listed-at .result .volume .0) (before .stretch .result .volume .0 + c .stretch2 .result .volume .0)
-    (cutList (take (a .m) (volumesIn (a .rates .now))) (freeIn (a .free .now) (a .count .now)) (a .place) (a .send .start .0) (a .send .end .0) (a .size .0) .list)
+    (cutList (a .edition .0) (take (a .m) (volumesIn (a .rates .now))) (freeIn (a .free .now) (a .count .now)) (a .place) (a .send .start .0) (a .send .end .0) (a .size .0) .list)
 made-two c =
     let two = c .before in
     let one = two .before in
     let before = first c in
     let r = read before in
-    makes-two _ _ _ _ _ _ (size (told r)) (inside (start r)) _ (r .listed-at .ensures) _ (roomy (start r)) (apart r) _ (before .stretch .ensures) (one .if1 .left) _ (two .if2 .left) (c .stretch2 .ensures)
+    makes-two _ _ _ _ _ _ _ (size (told r)) (inside (start r)) _ (r .listed-at .ensures) _ (roomy (start r)) (apart r) _ (before .stretch .ensures) (one .if1 .left) _ (two .if2 .left) (c .stretch2 .ensures)
 
-add-t32 : tie.Need-add-t32
-add-t32 c = record { fits = made-two (c .before .before) .fits }
+add-t33 : tie.Need-add-t33
+add-t33 c = record { fits = made-two (c .before .before) .fits }
 
 changed-requires-2 : tie.Need-changed-requires-2
 changed-requires-2 c κs = made-two (c .before .before .before) .asks
@@ -134,7 +134,7 @@ returns-3 c =
     let one = two .before in
     let before = first after in
     let r = read before in
-    let left = leaves-two _ _ _ _ _ _ (size (told r)) (inside (start r)) _ (r .listed-at .ensures) (apart r) _ (before .stretch .ensures) (one .if1 .left) _ _ _ (two .if2 .left)
+    let left = leaves-two _ _ _ _ _ _ _ (size (told r)) (inside (start r)) _ (r .listed-at .ensures) (apart r) _ (before .stretch .ensures) (one .if1 .left) _ _ _ (two .if2 .left)
     (after .stretch2 .ensures) (more .insert .ensures) (c .put-at2 .ensures) in
     (left .0, (left .1, made-is (made-two after) (next .changed2 .ensures) (left .1)))
 
@@ -150,7 +150,7 @@ cut-inside-spec =
     returns
     returns-2
     stretch-requires-2
-    add-t32
+    add-t33
     changed-requires-2
     add-insert
     insert-requires

@@ -12,7 +12,7 @@ use Rattle.free_words.proofs.end_in.Statement.{statement}
 use Rattle.free_words.proofs.end_in.Tie as tie
 
 abbrev rule : (c : tie.Start) → Rule
-rule c = endOf (take (c .args .m) (volumesIn (c .args .rates .now)))
+rule c = endOf (c .args .edition .0) (take (c .args .m) (volumesIn (c .args .rates .now)))
 
 returns : tie.Need-returns
 returns c =

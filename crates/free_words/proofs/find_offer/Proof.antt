@@ -22,17 +22,17 @@ use Rattle.free_words.proofs.find_offer.Statement.{statement}
 use Rattle.free_words.proofs.find_offer.Tie as tie
 
 abbrev Inv-loop : tie.InvT-loop
-Inv-loop rates m free n asked size i₀ i =
-    Left (loopOf (endOf (take m (volumesIn rates))) (asked .0) (size .0)) (take n (volumesIn free)) n 0 i i
+Inv-loop edition rates m free n asked size i₀ i =
+    Left (loopOf (endOf (edition .0) (take m (volumesIn rates))) (asked .0) (size .0)) (take n (volumesIn free)) n 0 i i
 
 abbrev μ-loop : tie.MeasureT-loop
-μ-loop rates m free n asked size i₀ i = n - i
+μ-loop edition rates m free n asked size i₀ i = n - i
 
 size-of : (c : tie.After-told-arg Inv-loop μ-loop) → length (c .before .args .free .now) ≡ 3 * listedMax
 size-of c = search needs
 
 abbrev rule : (c : tie.Start Inv-loop μ-loop) → Rule
-rule c = endOf (take (c .args .m) (volumesIn (c .args .rates .now)))
+rule c = endOf (c .args .edition .0) (take (c .args .m) (volumesIn (c .args .rates .now)))
 
 abbrev list : (c : tie.Start Inv-loop μ-loop) → List VolumeSegment
 list c = take (c .args .n) (volumesIn (c .args .free .now))

@@ -19,11 +19,11 @@ use Rattle.words.proofs.find_end.Statement.{statement}
 use Rattle.words.proofs.find_end.Tie as tie
 
 abbrev Inv-loop : tie.InvT-loop
-Inv-loop rates count deadline i₀ at₀ rest₀ i at rest =
-    Seeking (take count (volumesIn rates)) count (deadline .0) (at₀ .0) (rest₀ .0) i (at .0) (rest .0)
+Inv-loop edition rates count deadline i₀ at₀ rest₀ i at rest =
+    Seeking (edition .0) (take count (volumesIn rates)) count (deadline .0) (at₀ .0) (rest₀ .0) i (at .0) (rest .0)
 
 abbrev μ-loop : tie.MeasureT-loop
-μ-loop rates count deadline i₀ at₀ rest₀ i at rest = count - i
+μ-loop edition rates count deadline i₀ at₀ rest₀ i at rest = count - i
 
 size-of : (c : tie.After-told-arg Inv-loop μ-loop) → length (c .before .args .rates .now) ≡ 3 * segmentsMax
 size-of c = search needs
@@ -43,7 +43,7 @@ told-requires : tie.Need-told-requires Inv-loop μ-loop
 told-requires c κs = search needs
 
 loop-holds : tie.Need-loop-holds Inv-loop μ-loop
-loop-holds c = let p = c .before .before .pre in seek-first _ _ _ _ _ (p .1 .0) (p .1 .1)
+loop-holds c = let p = c .before .before .pre in seek-first _ _ _ _ _ _ (p .1 .0) (p .1 .1)
 
 rate-at-requires : tie.Need-rate-at-requires Inv-loop μ-loop
 rate-at-requires c κs = search needs
@@ -52,7 +52,7 @@ carried-requires : tie.Need-carried-requires Inv-loop μ-loop
 carried-requires c κs =
     let e = c .before .before .before in
     let q = e .before .before .loop .inv in
-    (seek-ok _ _ _ _ _ _ _ _ (e .rate-at .result) q (here e), (seek-from _ _ _ _ _ _ _ _ (e .rate-at .result) q (here e), c .if2 .taken))
+    (seek-ok _ _ _ _ _ _ _ _ _ (e .rate-at .result) q (here e), (seek-from _ _ _ _ _ _ _ _ _ (e .rate-at .result) q (here e), c .if2 .taken))
 
 sent-requires : tie.Need-sent-requires Inv-loop μ-loop
 sent-requires c κs =
@@ -60,16 +60,16 @@ sent-requires c κs =
     let e = p .before .before .before in
     let q = e .before .before .loop .inv in
     let s = e .rate-at .result in
-    let ok = seek-ok _ _ _ _ _ _ _ _ s q (here e) in
-    let from = seek-from _ _ _ _ _ _ _ _ s q (here e) in
+    let ok = seek-ok _ _ _ _ _ _ _ _ _ s q (here e) in
+    let from = seek-from _ _ _ _ _ _ _ _ _ s q (here e) in
     let low = share-low s ok (s .end .0 - e .before .before .loop .at .0) (omega arith) in
     (ok, (p .if2 .taken, (omega (arith, q .some), omega (arith, c .before .before .before .carried .ensures, c .if3 .taken, low))))
 
 by-deadline-requires : tie.Need-by-deadline-requires Inv-loop μ-loop
 by-deadline-requires c κs = search needs
 
-sub-t18 : tie.Need-sub-t18 Inv-loop μ-loop
-sub-t18 c = search needs
+sub-t19 : tie.Need-sub-t19 Inv-loop μ-loop
+sub-t19 c = search needs
 
 add-i : tie.Need-add-i Inv-loop μ-loop
 add-i c = search needs
@@ -84,12 +84,12 @@ loop-again c =
     let s = e .rate-at .result in
     let lt = e .before .if1 .left in
     ⊎-elim
-    (λ w. seek-on _ _ _ _ _ _ _ _ s q (here e) lt _ _ (w .0 .taken) (omega (arith, w .1 .ensures, w .4 .left)) (omega (arith, ap (λ (x : Date). x .0) (w .8))) (omega (arith, w .1 .ensures, ap (λ (x : Volume). x .0) (w .9))))
-    (λ w. seek-skip _ _ _ _ _ _ _ _ s q (here e) lt _ _ (w .0 .left) (omega (arith, ap (λ (x : Date). x .0) (w .1))) (omega (arith, ap (λ (x : Volume). x .0) (w .2))))
+    (λ w. seek-on _ _ _ _ _ _ _ _ _ s q (here e) lt _ _ (w .0 .taken) (omega (arith, w .1 .ensures, w .4 .left)) (omega (arith, ap (λ (x : Date). x .0) (w .8))) (omega (arith, w .1 .ensures, ap (λ (x : Volume). x .0) (w .9))))
+    (λ w. seek-skip _ _ _ _ _ _ _ _ _ s q (here e) lt _ _ (w .0 .left) (omega (arith, ap (λ (x : Date). x .0) (w .1))) (omega (arith, ap (λ (x : Volume). x .0) (w .2))))
     (c .if2 .came)
 
 returns : tie.Need-returns Inv-loop μ-loop
-returns c = sym (seek-none _ _ _ _ _ _ _ _ (c .before .loop .inv) (simp length-take (omega arith)))
+returns c = sym (seek-none _ _ _ _ _ _ _ _ _ (c .before .loop .inv) (simp length-take (omega arith)))
 
 returns-2 : tie.Need-returns-2 Inv-loop μ-loop
 returns-2 c =
@@ -97,7 +97,7 @@ returns-2 c =
     let e = p .before .before .before in
     c .by-deadline .ensures
     ∙ ap (λ (x : ℕ). byDeadline (e .before .before .before .before .before .args .deadline .0) x) (c .before .sent .ensures)
-    ∙ sym (seek-here _ _ _ _ _ _ _ _ (e .rate-at .result) (e .before .before .loop .inv) (here e) (p .if2 .taken)
+    ∙ sym (seek-here _ _ _ _ _ _ _ _ _ (e .rate-at .result) (e .before .before .loop .inv) (here e) (p .if2 .taken)
     (omega (arith, c .before .before .before .before .before .carried .ensures, c .before .before .if3 .taken)))
 
 pub find-end-spec : {M : Type 1} → statement M
@@ -112,7 +112,7 @@ find-end-spec =
     carried-requires
     sent-requires
     by-deadline-requires
-    sub-t18
+    sub-t19
     add-i
     loop-less
     loop-again

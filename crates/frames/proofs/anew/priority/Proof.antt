@@ -1,7 +1,9 @@
 -- `frames::anew::priority` meets its contract: what the layout gives is opened, and what is opened keeps its rules.
-use mathlib.Core.Path.{_≡_, sym, ap, _∙_}
+use mathlib.Core.Path.{sym, ap, _∙_}
 use borrow.Author.Needs.{needs}
+use Rattle.contact.specs.declared.Choices.{Choices}
 use Rattle.pseg.specs.declared.Opened.{Opened}
+use Rattle.pseg.specs.Open.{openOf}
 use Rattle.pseg.specs.Record.{recordOk}
 use Rattle.frames.specs.Opening.{priorityOpened}
 use Rattle.frames.proofs.Opened.{priority-opened}
@@ -11,14 +13,21 @@ use Rattle.frames.proofs.anew.priority.Tie as tie
 read-requires : tie.Need-read-requires
 read-requires c κs = search needs
 
+ported-requires : tie.Need-ported-requires
+ported-requires c κs = search needs
+
 open-requires : tie.Need-open-requires
 open-requires c κs = search needs
 
 returns : tie.Need-returns
 unfolding priorityOpened
 returns c =
-    let is = c .«open» .ensures ∙ ap priorityOpened (c .before .before .before .before .read .ensures) in
+    let f = c .before .before .before .before .before .read .result in
+    let is =
+    c .«open» .ensures
+    ∙ ap (λ (h : Choices). openOf h (f .window) (f .rates) (f .«rate_count») (f .delays) (f .«delay_count»)) (c .before .ported .ensures)
+    ∙ ap priorityOpened (c .before .before .before .before .before .read .ensures) in
     (is, λ z. ap (λ (o : Opened). recordOk (o .manager)) is ∙ priority-opened _ (sym (ap (λ (o : Opened). o .number) is) ∙ z))
 
 pub priority-spec : {M : Type 1} → statement M
-priority-spec = tie.close (tie.spec read-requires open-requires returns)
+priority-spec = tie.close (tie.spec read-requires ported-requires open-requires returns)

@@ -61,7 +61,7 @@ returns c =
     let kept = c .before .before in
     let one = kept .before in
     let a = begin (one .before) in
-    c .left .ensures ∙ stored a _ _ _ (kept .rest .ensures) ∙ book-start _ _ _ _ _ _ (size a) (inside a) (one .if1 .taken)
+    c .left .ensures ∙ stored a _ _ _ (kept .rest .ensures) ∙ book-start _ _ _ _ _ _ _ (size a) (inside a) (one .if1 .taken)
 
 stretch-requires : tie.Need-stretch-requires
 stretch-requires c κs = search needs
@@ -81,20 +81,20 @@ returns-2 c =
     let before = two .before .before .before .before in
     let one = before .before in
     let a = begin (one .before) in
-    c .left2 .ensures ∙ stored a _ _ _ (before .stretch .ensures) ∙ book-flat _ _ _ _ _ _ (size a) (inside a) (one .if1 .left) (two .if2 .taken)
+    c .left2 .ensures ∙ stored a _ _ _ (before .stretch .ensures) ∙ book-flat _ _ _ _ _ _ _ (size a) (inside a) (one .if1 .left) (two .if2 .taken)
 
 returns-3 : tie.Need-returns-3
 returns-3 c =
     let two = c .before in
     let one = two .before .before .before .before .before in
     let a = begin (one .before) in
-    book-full _ _ _ _ _ _ (size a) (inside a) (one .if1 .left) (two .if2 .left) (c .if3 .taken)
+    book-full _ _ _ _ _ _ _ (size a) (inside a) (one .if1 .left) (two .if2 .left) (c .if3 .taken)
 
 stretch-requires-2 : tie.Need-stretch-requires-2
 stretch-requires-2 c κs = search needs
 
-add-t37 : tie.Need-add-t37
-add-t37 c =
+add-t38 : tie.Need-add-t38
+add-t38 c =
     let after = c .before .before in
     let before = after .before .before .before .before .before .before in
     let a = begin-right after in
@@ -129,7 +129,7 @@ returns-4 c =
     let a = begin (one .before) in
     c .left3 .ensures
     ∙ rw (more .insert .ensures, before .stretch .ensures, after .stretch2 .ensures)
-    (book-two _ _ _ _ _ _ (size a) (inside a) (one .if1 .left) (two .if2 .left) (three .if3 .left))
+    (book-two _ _ _ _ _ _ _ (size a) (inside a) (one .if1 .left) (two .if2 .left) (three .if3 .left))
 
 pub cut-spec : {M : Type 1} → statement M
 cut-spec =
@@ -149,7 +149,7 @@ cut-spec =
     returns-2
     returns-3
     stretch-requires-2
-    add-t37
+    add-t38
     add-insert
     insert-requires
     mul-b

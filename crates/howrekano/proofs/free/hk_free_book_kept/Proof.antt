@@ -17,7 +17,7 @@ use Rattle.howrekano.proofs.free.hk_free_book_kept.Tie as tie
 abbrev lent : tie.Start → FreeVolume
 lent c =
     let a = c .args in
-    freeVolumeIn (a .window) (a .rates .now) (a .rate-count) (a .delays .now) (a .delay-count) (a .free .now) (a .count .now)
+    freeVolumeIn (a .choices .now) (a .window) (a .rates .now) (a .rate-count) (a .delays .now) (a .delay-count) (a .free .now) (a .count .now)
 
 -- where the call starts, from where the refusal is told
 abbrev start : tie.After-refusal → tie.Start
@@ -44,9 +44,13 @@ returns c =
     let e = c .before in
     rw (chosen-refused _ _ _ (start e .pre .0) _ (λ z. c .if1 .taken (refusal-is e ∙ z))) (refusal-is e, (refl, start e .pre .1))
 
+choices-at-requires : tie.Need-choices-at-requires
+choices-at-requires c κs = search needs
+
 cut-requires : tie.Need-cut-requires
 cut-requires c κs =
-    let one = c .before .before .before .before .before in
+    let named = c .before .before .before .before in
+    let one = named .before .before .before in
     let e = one .before in
     let p = start e .pre in
     let ok = p .0 in
@@ -54,21 +58,22 @@ cut-requires c κs =
       q .contact .rates .1,
       (
         record { from = _; run = q .contact .run },
-        (rw (e .before .before .chosen .ensures) (chosen-done _ _ _ ok _ (sym (refusal-is e) ∙ one .if1 .left) .1), record { is = p .1; small = cut-roomy _ ok _ _ _ .small }),
+        (rw (e .before .before .chosen .ensures) (chosen-done _ _ _ ok _ (sym (refusal-is e) ∙ one .if1 .left) .1), record { is = p .1; small = rw (named .choices-at .ensures) (cut-roomy _ ok _ _ _ .small) }),
       ),
     )
 
 returns-2 : tie.Need-returns-2
 returns-2 c =
-    let one = c .before .before .before .before .before .before in
+    let named = c .before .before .before .before .before in
+    let one = named .before .before .before in
     let e = one .before in
     let k = e .before .before in
     let s = start e in
-    let done = rw (k .chosen .ensures, k .before .before .dates-at .ensures) at (c .cut .ensures) in
+    let done = rw (k .chosen .ensures, k .before .before .dates-at .ensures, named .choices-at .ensures) at (c .cut .ensures) in
     rw (chosen-done _ _ _ (s .pre .0) _ (sym (refusal-is e) ∙ one .if1 .left) .0)
     (done .0, (ap (λ (l : FreeList). withFree (lent s) l) (done .1 .0), done .1 .1))
 
 pub hk-free-book-kept-spec : {M : Type 1} → statement M
 hk-free-book-kept-spec =
     tie.close
-    (tie.spec dates-at-requires chosen-requires refusal-requires returns cut-requires returns-2)
+    (tie.spec dates-at-requires chosen-requires refusal-requires returns choices-at-requires cut-requires returns-2)

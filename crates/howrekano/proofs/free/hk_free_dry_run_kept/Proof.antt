@@ -16,17 +16,27 @@ use Rattle.howrekano.proofs.free.hk_free_dry_run_kept.Tie as tie
 abbrev lent : tie.Start → FreeVolume
 lent c =
     let a = c .args in
-    freeVolumeIn (a .window) (a .rates .now) (a .rate-count) (a .delays .now) (a .delay-count) (a .free .now) (a .count)
+    freeVolumeIn (a .choices .now) (a .window) (a .rates .now) (a .rate-count) (a .delays .now) (a .delay-count) (a .free .now) (a .count)
 
 -- the test that holds
 bundle-holds : (c : tie.Else1) → let a = c .before .before .args in bundleOk (a .at) (a .bundle) ≡ true
 bundle-holds c = told-yes (c .before .ok-at .ensures) (c .if1 .left)
 
+-- where the search starts
+abbrev begin : tie.After-find-offer → tie.Else1
+begin c = c .before .before .before .before
+
+-- it is the search of the record's edition
+found-is : (c : tie.After-find-offer) →
+    let s = begin c .before .before in
+    c .find-offer .result ≡ foundOf (lent s) (s .args .at .0) (s .args .bundle .size .0)
+found-is c = rw (c .before .before .choices-at .ensures) at (c .find-offer .ensures)
+
 -- what the search found
 found : (c : tie.After-send) →
-    let s = c .before .before .before .before .before .before in
+    let s = begin (c .before .before) .before .before in
     foundOf (lent s) (s .args .at .0) (s .args .bundle .size .0) ≡ At (c .send .given .0 .0) (c .send .given .0 .1 .0)
-found c = sym (c .before .before .find-offer .ensures) ∙ c .send .given .1
+found c = sym (found-is (c .before .before)) ∙ c .send .given .1
 
 ok-at-requires : tie.Need-ok-at-requires
 ok-at-requires c κs = search needs
@@ -39,9 +49,12 @@ returns c =
     let t = c .before .before in
     c .refused .ensures ∙ sym (dry-bundle _ _ _ (t .before .pre) (told-no (t .ok-at .ensures) (c .before .if1 .taken)))
 
+choices-at-requires : tie.Need-choices-at-requires
+choices-at-requires c κs = search needs
+
 find-offer-requires : tie.Need-find-offer-requires
 find-offer-requires c κs =
-    let e = c .before in
+    let e = c .before .before .before in
     search-asks _ _ _ (e .before .before .pre) (bundle-holds e)
 
 enum-known-send : tie.Need-enum-known-send
@@ -56,20 +69,20 @@ refused-requires-2 c κs = search needs
 returns-2 : tie.Need-returns-2
 returns-2 c =
     let f = c .before .before .before in
-    let e = f .before .before in
+    let e = begin f in
     c .refused2 .ensures
-    ∙ sym (dry-found _ _ _ (e .before .before .pre) (bundle-holds e) (sym (f .find-offer .ensures) ∙ c .before .enum-told .given .1))
+    ∙ sym (dry-found _ _ _ (e .before .before .pre) (bundle-holds e) (sym (found-is f) ∙ c .before .enum-told .given .1))
 
 answer-at-requires : tie.Need-answer-at-requires
 answer-at-requires c κs =
     let p = c .before in
-    let e = p .before .before .before .before in
+    let e = begin (p .before .before) in
     answer-asks _ _ _ (e .before .before .pre) (bundle-holds e) _ _ (found p)
 
 returns-3 : tie.Need-returns-3
 returns-3 c =
     let p = c .before .before in
-    let e = p .before .before .before .before in
+    let e = begin (p .before .before) in
     c .answer-at .ensures ∙ sym (dry-found _ _ _ (e .before .before .pre) (bundle-holds e) (found p))
 
 pub hk-free-dry-run-kept-spec : {M : Type 1} → statement M
@@ -79,6 +92,7 @@ hk-free-dry-run-kept-spec =
     ok-at-requires
     refused-requires
     returns
+    choices-at-requires
     find-offer-requires
     enum-known-send
     enum-told

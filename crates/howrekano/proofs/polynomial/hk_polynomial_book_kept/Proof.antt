@@ -66,7 +66,7 @@ cut-requires c κs =
         record { from = 0; run = tt },
         (
           rw (chosen-is (e .before .before)) (chosen-done _ _ _ (start e .pre) _ (sym (refusal-is e) ∙ one .if1 .left) .1),
-          bare-roomy _ _ _ _ _ _ _ (facts _ (start e .pre) .free),
+          bare-roomy _ _ _ _ _ _ _ _ (facts _ (start e .pre) .free),
         ),
       ),
     )

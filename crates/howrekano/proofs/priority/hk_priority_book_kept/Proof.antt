@@ -16,7 +16,7 @@ use Rattle.howrekano.proofs.priority.hk_priority_book_kept.Tie as tie
 abbrev lent : tie.Start → PrioritySeg
 lent c =
     let a = c .args in
-    prioritySegIn (a .window) (a .rates .now) (a .rate-count) (a .delays .now) (a .delay-count) (a .bookings .now) (a .count .now)
+    prioritySegIn (a .choices .now) (a .window) (a .rates .now) (a .rate-count) (a .delays .now) (a .delay-count) (a .bookings .now) (a .count .now)
 
 -- where the call starts, from where the refusal is told
 abbrev start : tie.After-refusal → tie.Start

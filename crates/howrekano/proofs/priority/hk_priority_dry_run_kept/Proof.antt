@@ -22,7 +22,7 @@ use Rattle.howrekano.proofs.priority.hk_priority_dry_run_kept.Tie as ti
 abbrev lent : tie.Start → PrioritySeg
 lent c =
     let a = c .args in
-    prioritySegIn (a .window) (a .rates .now) (a .rate-count) (a .delays .now) (a .delay-count) (a .bookings .now) (a .count)
+    prioritySegIn (a .choices .now) (a .window) (a .rates .now) (a .rate-count) (a .delays .now) (a .delay-count) (a .bookings .now) (a .count)
 
 -- the test that holds
 bundle-holds : (c : tie.Else1) → let a = c .before .before .args in bundleOk (a .at) (a .bundle) ≡ true
@@ -31,11 +31,21 @@ bundle-holds c = told-yes (c .before .ok-at .ensures) (c .if1 .left)
 some : (c : tie.Else1) → 0 < c .before .before .args .bundle .size .0
 some c = load _ (asked-load _ _ (bundle-holds c)) .some
 
+-- where the search starts
+abbrev begin : tie.After-find-run → tie.Else1
+begin c = c .before .before .before .before .before
+
+-- it is the search of the record's edition
+found-is : (c : tie.After-find-run) →
+    let s = begin c .before .before in
+    c .find-run .result ≡ runOf (lent s) (s .args .at .0) (s .args .bundle)
+found-is c = rw (c .before .before .choices-at .ensures) at (c .find-run .ensures)
+
 -- what the search found
 found : (c : tie.After-send) →
-    let s = c .before .before .before .before .before .before .before in
+    let s = begin (c .before .before) .before .before in
     runOf (lent s) (s .args .at .0) (s .args .bundle) ≡ Sent (c .send .given .0 .0)
-found c = sym (c .before .before .find-run .ensures) ∙ c .send .given .1
+found c = sym (found-is (c .before .before)) ∙ c .send .given .1
 
 ok-at-requires : tie.Need-ok-at-requires
 ok-at-requires c κs = search needs
@@ -48,9 +58,12 @@ returns c =
     let t = c .before .before in
     c .refused .ensures ∙ sym (dry-bundle _ _ _ (t .before .pre) (told-no (t .ok-at .ensures) (c .before .if1 .taken)))
 
+choices-at-requires : tie.Need-choices-at-requires
+choices-at-requires c κs = search needs
+
 find-run-requires : tie.Need-find-run-requires
 find-run-requires c κs =
-    let e = c .before .before in
+    let e = c .before .before .before .before in
     let q = facts _ (e .before .before .pre) in
     (q .contact .rates .1, (some e, (record { from = _; below = le-refl _; run = q .contact .run }, (q .few, cover-from _ _ _ (q .cover)))))
 
@@ -63,21 +76,21 @@ refused-requires-2 c κs = search needs
 returns-2 : tie.Need-returns-2
 returns-2 c =
     let f = c .before .before in
-    let e = f .before .before .before in
+    let e = begin f in
     c .refused2 .ensures
-    ∙ sym (dry-none _ _ _ (e .before .before .pre) (bundle-holds e) (f .find-run .result) (sym (f .find-run .ensures)) (unsent (f .find-run .result) (c .before .match .keys2)))
+    ∙ sym (dry-none _ _ _ (e .before .before .pre) (bundle-holds e) (f .find-run .result) (sym (found-is f)) (unsent (f .find-run .result) (c .before .match .keys2)))
 
 answer-at-requires : tie.Need-answer-at-requires
 answer-at-requires c κs =
     let p = c .before in
-    let e = p .before .before .before .before .before in
+    let e = begin (p .before .before) in
     let q = facts _ (e .before .before .pre) in
     (q .contact .delays .1, (all-short _ (q .contact .brief), answer-asks _ q _ _ _ (found p) (some e) .1))
 
 returns-3 : tie.Need-returns-3
 returns-3 c =
     let p = c .before .before in
-    let e = p .before .before .before .before .before in
+    let e = begin (p .before .before) in
     c .answer-at .ensures ∙ sym (dry-at _ _ _ (e .before .before .pre) (bundle-holds e) _ (found p))
 
 pub hk-priority-dry-run-kept-spec : {M : Type 1} → statement M
@@ -87,6 +100,7 @@ hk-priority-dry-run-kept-spec =
     ok-at-requires
     refused-requires
     returns
+    choices-at-requires
     find-run-requires
     enum-known-send
     refused-requires-2

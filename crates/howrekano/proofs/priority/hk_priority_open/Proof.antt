@@ -13,4 +13,4 @@ use Rattle.howrekano.proofs.Lends.{lends}
 pub hk-priority-open-spec : {M : Type 1} → stated.statement M
 unfolding code.routine
 hk-priority-open-spec 𝓤 H 𝓜 𝓖 𝓡 =
-    lends opening (struct priority-opened) (λ x. openOf (x .window) (x .rates) (x .«rate_count») (x .delays) (x .«delay_count»)) 𝓤 (total 𝓤) H 𝓜 𝓖 𝓡 self.name code.env callee.name (code.unfolded 𝓤 H 𝓜 𝓡) callee.routine code.calls-howrekano·priority·opened (callee-thm.met 𝓤 H 𝓜 𝓖 𝓡)
+    lends opening (struct priority-opened) (λ x. openOf (x .choices) (x .window) (x .rates) (x .«rate_count») (x .delays) (x .«delay_count»)) 𝓤 (total 𝓤) H 𝓜 𝓖 𝓡 self.name code.env callee.name (code.unfolded 𝓤 H 𝓜 𝓡) callee.routine code.calls-howrekano·priority·opened (callee-thm.met 𝓤 H 𝓜 𝓖 𝓡)

@@ -23,7 +23,7 @@ some-size : (c : tie.Else1) → 0 < c .before .before .args .bundle .size .0
 some-size c = load _ (asked-load _ _ (bundle-holds c)) .some
 
 abbrev tested : tie.After-priority → tie.Else1
-tested c = c .before .before .before .before .before .before .before
+tested c = c .before .before .before .before .before .before .before .before .before
 
 -- what the search found
 found : (c : tie.After-send) → let a = tested (c .before .before .before) .before .before .args in runOf (a .self) (a .at .0) (a .bundle) ≡ Sent (c .send .given .0 .0)

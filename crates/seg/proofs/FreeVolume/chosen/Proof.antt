@@ -22,7 +22,7 @@ some c = load _ (asked-load _ _ (bundle-holds c)) .some
 
 -- where the bundle is tested, from what the search found
 abbrev one : tie.After-find-offer → tie.Else1
-one c = c .before .before .before .before .before .before .before
+one c = c .before .before .before .before .before .before .before .before .before
 
 -- what the search found
 found : (c : tie.After-place) →
@@ -42,7 +42,7 @@ returns c =
 
 find-offer-requires : tie.Need-find-offer-requires
 find-offer-requires c κs =
-    let e = c .before .before .before .before .before .before in
+    let e = c .before .before .before .before .before .before .before .before in
     let q = facts _ (e .before .before .pre) in
     (q .contact .rates .1, (q .few, (some e, (q .contact .run, q .rules))))
 

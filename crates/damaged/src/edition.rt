@@ -1,0 +1,20 @@
+// What the free-volume and the priority record share, with another edition.
+use contact::Choices;
+use contact::Contact;
+use segmentation::Edition;
+
+pub fn named(c: Contact, edition: u64) -> Contact {
+    let window = c.window;
+    let rates = c.rates;
+    let delays = c.delays;
+    Contact {
+        choices: Choices {
+            edition: Edition(edition),
+        },
+        window: window,
+        rates: rates,
+        rate_count: c.rate_count,
+        delays: delays,
+        delay_count: c.delay_count,
+    }
+}
