@@ -6,7 +6,8 @@
 //! original's calls ([`calls`]), answer, line. Above that stand the dialogues
 //! that are compared ([`generate`]) and the comparison itself ([`drive`]), and
 //! document 02's R-8, which is held against any program's answers without the
-//! original's ([`earliest`]).
+//! original's ([`earliest`]). R-5, which has no original under edition 2, is read
+//! from the documents and held against a library's calls ([`editions`]).
 
 /// The original, built unchanged by `build.rs`.
 pub extern crate asabr;
@@ -14,6 +15,7 @@ pub extern crate asabr;
 pub mod calls;
 pub mod drive;
 pub mod earliest;
+pub mod editions;
 pub mod frames;
 pub mod free;
 pub mod generate;

@@ -1,0 +1,136 @@
+//! Contacts that open: small ones, tiny ones of which everything can be asked,
+//! ones with room for a long list, and ones at the limits.
+
+use crate::frames::{RatedOpening, Span, Window};
+use crate::generate::openings::{delay, placed, tiled};
+use crate::generate::rng::Rng;
+use crate::limits::{MAX_DELAYS, MAX_LENGTH, MAX_RATES, MAX_VOLUME};
+
+/// Lengths of windows, the shortest and the longest of each scale.
+const TINY: (i64, i64) = (1, 5);
+const SMALL: (i64, i64) = (1, 40);
+const MIDDLE: (i64, i64) = (41, 1_500);
+/// Long enough for 64 listed segments.
+const ROOMY: (i64, i64) = (140, 400);
+
+/// The most rate segments of a small window.
+const FEW_RATES: usize = 5;
+const FEW_DELAYS: usize = 4;
+
+#[derive(Clone, Copy, Debug, PartialEq, Eq)]
+pub enum Scale {
+    Tiny,
+    Small,
+    Middle,
+    Roomy,
+    Limit,
+}
+
+pub fn scale(rng: &mut Rng) -> Scale {
+    match rng.below(16) {
+        0 => Scale::Tiny,
+        1..10 => Scale::Small,
+        10..12 => Scale::Middle,
+        12..13 => Scale::Roomy,
+        _ => Scale::Limit,
+    }
+}
+
+pub fn contact(rng: &mut Rng, scale: Scale) -> RatedOpening {
+    let length = length(rng, scale);
+    let window = placed(rng, length);
+    let most_delays = match scale {
+        Scale::Tiny | Scale::Small => FEW_DELAYS,
+        _ => MAX_DELAYS,
+    };
+    RatedOpening {
+        window,
+        rates: rates(rng, window, scale),
+        delays: tiled(rng, window, most_delays, |rng, _| delay(rng)),
+    }
+}
+
+fn length(rng: &mut Rng, scale: Scale) -> i64 {
+    let (shortest, longest) = match scale {
+        Scale::Tiny => TINY,
+        Scale::Small => SMALL,
+        Scale::Middle => MIDDLE,
+        Scale::Roomy => ROOMY,
+        Scale::Limit => match rng.below(4) {
+            0 => return MAX_LENGTH,
+            1 => return rng.any_scale(MAX_LENGTH),
+            _ => (MAX_LENGTH / 2, MAX_LENGTH),
+        },
+    };
+    rng.between(shortest, longest)
+}
+
+fn rates(rng: &mut Rng, window: Window, scale: Scale) -> Vec<Span> {
+    match scale {
+        Scale::Tiny => tiled(rng, window, FEW_RATES, |rng, _| rng.between(0, 3)),
+        Scale::Small => mixed(rng, window, FEW_RATES),
+        Scale::Middle => mixed(rng, window, MAX_RATES),
+        Scale::Roomy => tiled(rng, window, 2, |rng, _| rng.between(1, 12)),
+        Scale::Limit if rng.once_in(3) => of_total(window, MAX_VOLUME),
+        Scale::Limit => large(rng, window),
+    }
+}
+
+/// Rates of a few units, ticks that carry nothing among them; now and then one
+/// that takes the total to its limit. `room` is what is left of that.
+fn mixed(rng: &mut Rng, window: Window, most: usize) -> Vec<Span> {
+    let mut room = MAX_VOLUME;
+    tiled(rng, window, most, |rng, part| {
+        let length = part.end - part.start;
+        let rate = match rng.below(32) {
+            0..7 => 0,
+            7..12 => 1,
+            12..20 => rng.between(2, 5),
+            20..25 => 10,
+            25..29 => rng.between(1, 30),
+            29..31 => rng.between(1, 5_000),
+            _ => MAX_VOLUME,
+        }
+        .min(room / length);
+        room -= rate * length;
+        rate
+    })
+}
+
+fn large(rng: &mut Rng, window: Window) -> Vec<Span> {
+    let mut room = MAX_VOLUME;
+    tiled(rng, window, MAX_RATES, |rng, part| {
+        let length = part.end - part.start;
+        let most = room / length;
+        let rate = match rng.below(5) {
+            0 => 0,
+            1 => most / 16,
+            2 => rng.between(0, most),
+            3 => most,
+            _ => rng.any_scale(most.max(1)).min(most),
+        };
+        room -= rate * length;
+        rate
+    })
+}
+
+/// Rates of exactly this total: the last tick takes what is left over.
+pub fn of_total(window: Window, total: i64) -> Vec<Span> {
+    let Window { start, end } = window;
+    let length = end - start;
+    let last = |value| Span {
+        start: end - 1,
+        end,
+        value,
+    };
+    if length == 1 {
+        return vec![last(total)];
+    }
+    let even = total / length;
+    let most = Span {
+        start,
+        end: end - 1,
+        value: even,
+    };
+    vec![most, last(total - even * (length - 1))]
+}

@@ -1,0 +1,50 @@
+//! Random dialogues from a seed.
+
+mod asked;
+mod contacts;
+mod talk;
+mod wrong;
+
+use super::terms::{Dialogue, FIRST, Manager, SECOND};
+use crate::generate::rng::Rng;
+use talk::Talk;
+
+/// Which editions are chosen.
+#[derive(Clone, Copy, Debug, PartialEq, Eq)]
+pub enum Editions {
+    /// Mostly edition 2, and now and then an edition that is none.
+    Both,
+    /// Edition 1 alone: there is an original to compare with.
+    First,
+}
+
+/// Of so many dialogues one is of edition 1.
+const FIRST_SHARE: usize = 4;
+
+impl Editions {
+    fn pick(self, rng: &mut Rng) -> u64 {
+        match self {
+            Editions::Both if !rng.once_in(FIRST_SHARE) => SECOND,
+            _ => FIRST,
+        }
+    }
+}
+
+pub struct Dialogues {
+    rng: Rng,
+    editions: Editions,
+}
+
+impl Dialogues {
+    pub fn of(seed: u64, editions: Editions) -> Self {
+        Dialogues {
+            rng: Rng::new(seed),
+            editions,
+        }
+    }
+
+    pub fn dialogue(&mut self) -> Dialogue {
+        let manager = self.rng.pick(&[Manager::Free, Manager::Priority]);
+        Talk::of(&mut self.rng, manager, self.editions).whole()
+    }
+}

@@ -1,0 +1,66 @@
+//! Document 02's R-5 held against a library's calls: free-volume and priority
+//! records that name their edition of the end rule.
+//!
+//! [`reading`] answers every call from the words of documents 01 and 02 alone;
+//! [`dialogues`] makes calls from a seed; [`play`] holds the answers of the
+//! calls under test ([`calls`]) against the reading's, and demand 3 against
+//! them tick by tick ([`sums`]).
+
+pub mod calls;
+pub mod dialogues;
+pub mod figures;
+pub mod play;
+pub mod program;
+pub mod reading;
+pub mod shrink;
+pub mod sums;
+pub mod terms;
+
+use crate::drive::Progress;
+use calls::Calls;
+use dialogues::{Dialogues, Editions};
+use figures::Figures;
+use play::Difference;
+use terms::{Dialogue, Manager};
+
+pub struct Settings {
+    /// At least so many are made; the last dialogue is finished.
+    pub calls: usize,
+    pub seed: u64,
+    pub editions: Editions,
+}
+
+pub struct Outcome {
+    pub figures: Figures,
+    pub found: Option<Found>,
+}
+
+/// A difference, in the shortest dialogue found that shows one.
+pub struct Found {
+    pub dialogue: Dialogue,
+    pub difference: Difference,
+}
+
+/// Plays dialogues until enough calls have been made or an answer is wrong.
+/// `make` gives the calls of a manager with nothing open.
+pub fn check<C: Calls>(settings: &Settings, make: impl Fn(Manager) -> C) -> Outcome {
+    let mut dialogues = Dialogues::of(settings.seed, settings.editions);
+    let mut figures = Figures::default();
+    let mut progress = Progress::new("calls", settings.calls);
+    let mut found = None;
+    while found.is_none() && figures.calls() < settings.calls {
+        let dialogue = dialogues.dialogue();
+        figures.dialogues += 1;
+        let mut tested = make(dialogue.manager);
+        if let Some(difference) = play::play(&dialogue, &mut tested, &mut figures) {
+            figures.differences += 1;
+            let (dialogue, difference) = shrink::shrink(&make, &dialogue, difference);
+            found = Some(Found {
+                dialogue,
+                difference,
+            });
+        }
+        progress.report(figures.calls());
+    }
+    Outcome { figures, found }
+}

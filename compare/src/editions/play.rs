@@ -1,0 +1,176 @@
+//! One dialogue: every call to the reading and to the calls under test, and
+//! demand 3's sums on what the latter answer.
+
+use super::calls::{Calls, ask};
+use super::figures::{Figures, Sort};
+use super::reading::Reading;
+use super::sums::Sums;
+use super::terms::{Call, Dialogue, FIRST, Manager, Opening, SECOND, Said, is_edition};
+use crate::frames::{Dates, Request};
+
+/// What is not as it must be, at a call of the dialogue.
+#[derive(Clone, Debug, PartialEq, Eq)]
+pub struct Difference {
+    pub place: usize,
+    pub about: About,
+}
+
+#[derive(Clone, Debug, PartialEq, Eq)]
+pub enum About {
+    Answer(Box<Answered>),
+    Sums(String),
+}
+
+/// A call of the dialogue, or the list or the room after a booking.
+#[derive(Clone, Debug, PartialEq, Eq)]
+pub struct Answered {
+    pub call: Call,
+    pub expected: Said,
+    pub answered: Said,
+}
+
+/// Plays a dialogue up to the first difference.
+pub fn play<C: Calls>(
+    dialogue: &Dialogue,
+    tested: &mut C,
+    figures: &mut Figures,
+) -> Option<Difference> {
+    let mut table = Table {
+        manager: dialogue.manager,
+        reading: Reading::of(dialogue.manager),
+        tested,
+        sums: None,
+        figures,
+    };
+    let mut calls = dialogue.calls.iter().enumerate();
+    calls.find_map(|(place, call)| {
+        let about = table.turn(call).err()?;
+        Some(Difference { place, about })
+    })
+}
+
+struct Table<'a, C> {
+    manager: Manager,
+    reading: Reading,
+    tested: &'a mut C,
+    sums: Option<Sums>,
+    figures: &'a mut Figures,
+}
+
+impl<C: Calls> Table<'_, C> {
+    fn turn(&mut self, call: &Call) -> Result<(), About> {
+        let answered = self.compare(call)?;
+        let is_done = answered == Said::Number(0);
+        match call {
+            Call::Open(opening) if is_done => self.begin(opening),
+            // Nothing is promised of the sums where the edition changes.
+            Call::Edition(_) => self.sums = None,
+            Call::DryRun(request) => {
+                self.hold_length(&answered)?;
+                self.count_apart(*request, &answered);
+            }
+            Call::Book(request, dates) => self.after_booking(*request, *dates, is_done)?,
+            _ => {}
+        }
+        Ok(())
+    }
+
+    fn compare(&mut self, call: &Call) -> Result<Said, About> {
+        let expected = ask(&mut self.reading, call);
+        let answered = ask(self.tested, call);
+        let edition = self.edition_of(call);
+        let number = expected.number();
+        self.figures
+            .count(self.manager, edition, Sort::of(call), number);
+        if expected == answered {
+            return Ok(answered);
+        }
+        Err(About::Answer(Box::new(Answered {
+            call: call.clone(),
+            expected,
+            answered,
+        })))
+    }
+
+    fn edition_of(&self, call: &Call) -> u64 {
+        match call {
+            Call::Open(opening) => opening.edition,
+            _ => self.edition(),
+        }
+    }
+
+    /// With nothing open there is none.
+    fn edition(&self) -> u64 {
+        self.reading.record.as_ref().map_or(0, |it| it.edition)
+    }
+
+    fn begin(&mut self, opening: &Opening) {
+        self.sums = match self.manager {
+            Manager::Free => Sums::of(opening),
+            Manager::Priority => None,
+        };
+    }
+
+    /// Under edition 2 no offer of either manager has zero length.
+    fn hold_length(&self, answered: &Said) -> Result<(), About> {
+        let edition = self.edition();
+        match answered {
+            Said::Offer(Dates([start, end, ..])) if edition == SECOND && start >= end => {
+                Err(About::Sums(format!("send {start},{end} has no length")))
+            }
+            _ => Ok(()),
+        }
+    }
+
+    /// Does the choice of edition decide this dry run?
+    fn count_apart(&mut self, request: Request, answered: &Said) {
+        let Some(record) = &mut self.reading.record else {
+            return;
+        };
+        let own = record.edition;
+        record.edition = if own == FIRST { SECOND } else { FIRST };
+        let other = ask(&mut self.reading, &Call::DryRun(request));
+        if let Some(record) = &mut self.reading.record {
+            record.edition = own;
+        }
+        let is_apart = is_edition(own) && other != *answered;
+        self.figures.apart += usize::from(is_apart);
+    }
+
+    fn after_booking(
+        &mut self,
+        request: Request,
+        dates: Dates,
+        is_done: bool,
+    ) -> Result<(), About> {
+        let listed = self.compare(&Call::List)?;
+        let room = match self.manager {
+            Manager::Free => self.compare(&Call::Room)?,
+            Manager::Priority => Said::Number(0),
+        };
+        if let Said::Listed(listed) = &listed {
+            self.figures.longest_list = self.figures.longest_list.max(listed.len());
+        }
+        match is_done {
+            true => self.hold_sums(request, dates, &listed, &room),
+            false => Ok(()),
+        }
+    }
+
+    fn hold_sums(
+        &mut self,
+        request: Request,
+        dates: Dates,
+        listed: &Said,
+        room: &Said,
+    ) -> Result<(), About> {
+        let (Some(sums), Said::Listed(listed), Said::Room(room)) = (&mut self.sums, listed, room)
+        else {
+            return Ok(());
+        };
+        sums.book(request.load.size, dates).map_err(About::Sums)?;
+        sums.see(listed, *room).map_err(About::Sums)?;
+        self.figures.count_sums(self.edition());
+        Ok(())
+    }
+}

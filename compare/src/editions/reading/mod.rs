@@ -1,0 +1,71 @@
+//! Document 01 with R-5's editions, read from the documents' words alone.
+
+pub mod capacity;
+mod free;
+pub mod opening;
+mod priority;
+pub mod record;
+
+use super::calls::Calls;
+use super::terms::{Manager, Opening};
+use crate::frames::{Dates, Request, Span};
+use record::Record;
+
+pub struct Reading {
+    manager: Manager,
+    pub record: Option<Record>,
+}
+
+impl Reading {
+    pub fn of(manager: Manager) -> Self {
+        Reading {
+            manager,
+            record: None,
+        }
+    }
+
+    fn open_record(&mut self) -> Result<&mut Record, u8> {
+        self.record.as_mut().ok_or(1)
+    }
+
+    /// A record that is open and names an edition there is.
+    fn whole_record(&mut self) -> Result<&Record, u8> {
+        let record = self.open_record()?;
+        record.test_edition()?;
+        Ok(record)
+    }
+}
+
+impl Calls for Reading {
+    fn open(&mut self, opening: &Opening) -> Result<(), u8> {
+        if let Some(number) = opening::refusal(opening) {
+            return Err(number);
+        }
+        self.record = Some(Record::opened(self.manager, opening));
+        Ok(())
+    }
+
+    fn dry_run(&mut self, request: Request) -> Result<Dates, u8> {
+        self.open_record()?.dry_run(request)
+    }
+
+    fn book(&mut self, request: Request, stated: Dates) -> Result<(), u8> {
+        self.open_record()?.book(request, stated)
+    }
+
+    fn list(&mut self) -> Result<Vec<Span>, u8> {
+        Ok(self.whole_record()?.list.clone())
+    }
+
+    fn room(&mut self) -> Result<i64, u8> {
+        Ok(self.whole_record()?.room())
+    }
+
+    /// What it lists keeps the rules of either edition: no volume is above the
+    /// exact capacity.
+    fn name_edition(&mut self, edition: u64) -> Result<(), u8> {
+        let record = self.open_record()?;
+        record.edition = edition;
+        record.test_edition()
+    }
+}

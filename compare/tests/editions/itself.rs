@@ -1,0 +1,52 @@
+//! The reading against itself: no difference, and everything is asked.
+
+use oracle::editions::dialogues::{Dialogues, Editions};
+use oracle::editions::figures::Sort;
+use oracle::editions::reading::Reading;
+use oracle::editions::terms::{FIRST, SECOND};
+use oracle::editions::{Settings, check};
+
+#[test]
+fn every_outcome_is_met_in_both_editions() {
+    let settings = Settings {
+        calls: 200_000,
+        seed: 52,
+        editions: Editions::Both,
+    };
+    let outcome = check(&settings, Reading::of);
+    let figures = outcome.figures;
+    println!("{figures}");
+    assert!(outcome.found.is_none());
+    for edition in [FIRST, SECOND] {
+        for (sort, numbers) in [
+            (Sort::Opening, &[0, 3, 4, 5, 6][..]),
+            (Sort::DryRun, &[0, 2, 7]),
+            (Sort::Booking, &[0, 2, 9, 10]),
+            (Sort::List, &[0]),
+            (Sort::Room, &[0]),
+        ] {
+            for number in numbers {
+                let count = figures.answered(edition, sort, *number);
+                assert!(count > 20, "{edition} {sort:?} {number}: {count}");
+            }
+        }
+    }
+    assert!(figures.answered(0, Sort::Opening, 2) > 100);
+    for sort in [Sort::DryRun, Sort::Booking, Sort::List, Sort::Room] {
+        assert!(figures.answered(0, sort, 1) > 100, "{sort:?}");
+    }
+    assert_eq!(figures.longest_list, 64);
+    assert!(figures.sums_second > 5_000);
+    assert!(figures.apart > 5_000);
+    assert!(figures.calls_of(SECOND) > 2 * figures.calls_of(FIRST));
+}
+
+#[test]
+fn the_same_seed_gives_the_same_dialogues() {
+    let ten = |seed| {
+        let mut dialogues = Dialogues::of(seed, Editions::Both);
+        [(); 10].map(|()| dialogues.dialogue())
+    };
+    assert_eq!(ten(7), ten(7));
+    assert_ne!(ten(7), ten(8));
+}
