@@ -1,4 +1,5 @@
-/* Cases 1, 8, 10 and 11 of document 01, and 02's room, from C, by both doors, on the library as the kit compiles it for x86-64. */
+/* Cases 1, 5, 8, 10 and 11 of document 01, 02's room and both editions of the end rule, from C, by both doors, on the library as the kit
+   compiles it for x86-64. */
 #include "howrekano.h"
 
 int printf(const char *, ...);
@@ -25,18 +26,18 @@ static const uint64_t *words(const hk_segment *s) { return (const uint64_t *)s; 
 /* a dry run and the booking of what it offers, by the kept door, and the room that is left */
 static void free_booked(hk_free *m, uint64_t at, hk_bundle b)
 {
-    hk_offer o = hk_free_dry_run_kept(CONTACT(m), words(m->list.segments), m->list.count, at, b);
+    hk_offer o = hk_free_dry_run_kept(CONTACT(m), words(m->list.segments), m->list.count, at, b, &m->contact.choices);
     show("kept offer", o);
-    int n = hk_free_book_kept(CONTACT(m), LIST(m), &m->room, at, b, (const uint64_t *)&o.dates);
+    int n = hk_free_book_kept(CONTACT(m), LIST(m), &m->room, at, b, (const uint64_t *)&o.dates, &m->contact.choices);
     list("kept booking", n, &m->list);
     printf("kept room: %lu\n", hk_free_room_kept(m));
 }
 
 static void priority_booked(hk_priority *m, uint64_t at, hk_bundle b)
 {
-    hk_offer o = hk_priority_dry_run_kept(CONTACT(m), words(m->list.segments), m->list.count, at, b);
+    hk_offer o = hk_priority_dry_run_kept(CONTACT(m), words(m->list.segments), m->list.count, at, b, &m->contact.choices);
     show("kept offer", o);
-    int n = hk_priority_book_kept(CONTACT(m), LIST(m), at, b, (const uint64_t *)&o.dates);
+    int n = hk_priority_book_kept(CONTACT(m), LIST(m), at, b, (const uint64_t *)&o.dates, &m->contact.choices);
     list("kept booking", n, &m->list);
 }
 
@@ -79,6 +80,36 @@ static void rises(const hk_contact *opening)
     room("room", &m);
 }
 
+/* case 5, then what the booking at a stretch's start leaves, by both doors */
+static void edition(hk_contact opening, uint64_t number)
+{
+    opening.choices.edition = number;
+    hk_free_opened opened = hk_free_open(&opening);
+    hk_free m = opened.manager;
+    printf("edition %lu: %d, named %lu\n", number, opened.number, m.contact.choices.edition);
+    if (opened.number != 0)
+        return;
+    free_booked(&m, 5, (hk_bundle){50, 0});
+    show("29 at 3", hk_free_dry_run(&m, 3, (hk_bundle){29, 0}));
+    show("20 at 3", hk_free_dry_run(&m, 3, (hk_bundle){20, 0}));
+    free_booked(&m, 0, (hk_bundle){15, 0});
+    room("room", &m);
+    hk_priority p = hk_priority_open(&opening).manager;
+    priority_booked(&p, 5, (hk_bundle){9, 0});
+    m.contact.choices.edition = p.contact.choices.edition = 3;
+    hk_bundle b = {20, 0};
+    printf("damaged: %d %d\n", hk_free_dry_run(&m, 3, b).number, hk_priority_dry_run(&p, 3, b).number);
+}
+
+/* 2 goes before 3: no edition and no window */
+static void left_zero(void)
+{
+    hk_contact opening = {{0}};
+    printf("left zero: %d %d\n", hk_free_open(&opening).number, hk_priority_open(&opening).number);
+    opening.choices.edition = 1;
+    printf("but for the edition: %d %d\n", hk_free_open(&opening).number, hk_priority_open(&opening).number);
+}
+
 static void priority(const hk_contact *opening)
 {
     hk_priority_opened opened = hk_priority_open(opening);
@@ -116,11 +147,15 @@ static void queue(const hk_contact *c)
 
 int main(void)
 {
-    hk_contact opening = {{0, 10}, {{0, 10, 10}}, 1, {{0, 10, 3}}, 1};
+    hk_contact opening = {{.edition = 1}, {0, 10}, {{0, 10, 10}}, 1, {{0, 10, 3}}, 1};
     free_volume(&opening);
     rises(&opening);
     priority(&opening);
     polynomial(&opening);
     queue(&opening);
+    edition(opening, 1);
+    edition(opening, 2);
+    edition(opening, 3);
+    left_zero();
     return 0;
 }

@@ -16,8 +16,22 @@ typedef struct { uint8_t number; hk_dates dates; } hk_offer;
 typedef struct { hk_segment segments[64]; size_t count; } hk_list;
 typedef struct { uint8_t number; hk_list list; } hk_listing;
 
+/* What an opening of the free-volume or the priority manager chooses and the record names; no booking changes it. Write each by its name,
+   { .edition = 1 } for what the original has: an opening that is left zero is refused with 2, before all else, as is one with a choice that
+   there is not; a record that names one is damaged, and refused with 1.
+   The edition, 1 or 2, is that of the end rule. Both look at the first tick by which the rates, added up from the send's start, reach the
+   size. 1, the original's, ends the send there if the sum is exactly the size, and a tick earlier if it is more: the booked ticks can then
+   carry less than the size, and a bundle smaller than what one tick carries is sent in no time. 2 ends it there in any case, when its final
+   unit has left; a booking at a free segment's start then lists what the rest carries, and sizes never exceed what the booked ticks carry */
+typedef struct { uint64_t edition; } hk_choices;
+
 /* the free-volume and the priority manager; in a record a rate stands as a volume, its rate times its length */
-typedef struct { hk_interval window; hk_segment rates[16]; size_t rate_count; hk_segment delays[16]; size_t delay_count; } hk_contact;
+typedef struct {
+    hk_choices choices;
+    hk_interval window;
+    hk_segment rates[16]; size_t rate_count;
+    hk_segment delays[16]; size_t delay_count;
+} hk_contact;
 typedef struct { hk_contact contact; hk_list list; uint64_t room; } hk_free; /* room: the sum of the listed volumes */
 typedef struct { hk_contact contact; hk_list list; } hk_priority;
 typedef struct { uint8_t number; hk_free manager; } hk_free_opened;
@@ -31,20 +45,22 @@ typedef struct { uint8_t number; uint64_t room; } hk_room;
     hk_offer hk_##M##_dry_run(const hk_##M *m, uint64_t at, hk_bundle bundle); \
     uint8_t hk_##M##_book(hk_##M *m, uint64_t at, hk_bundle bundle, const hk_dates *dates); \
     hk_offer hk_##M##_dry_run_kept(hk_interval window, const uint64_t *rates, size_t rate_count, const uint64_t *delays, \
-        size_t delay_count, const uint64_t *list, size_t count, uint64_t at, hk_bundle bundle);
+        size_t delay_count, const uint64_t *list, size_t count, uint64_t at, hk_bundle bundle, const hk_choices *choices);
 HK_LISTED(free)
 HK_LISTED(priority)
-uint8_t hk_free_book_kept(hk_interval window, const uint64_t *rates, size_t rate_count, const uint64_t *delays,
-    size_t delay_count, uint64_t *list, size_t *count, uint64_t *room, uint64_t at, hk_bundle bundle, const uint64_t dates[4]);
-uint8_t hk_priority_book_kept(hk_interval window, const uint64_t *rates, size_t rate_count, const uint64_t *delays,
-    size_t delay_count, uint64_t *list, size_t *count, uint64_t at, hk_bundle bundle, const uint64_t dates[4]);
+uint8_t hk_free_book_kept(hk_interval window, const uint64_t *rates, size_t rate_count, const uint64_t *delays, size_t delay_count,
+    uint64_t *list, size_t *count, uint64_t *room, uint64_t at, hk_bundle bundle, const uint64_t dates[4], const hk_choices *choices);
+uint8_t hk_priority_book_kept(hk_interval window, const uint64_t *rates, size_t rate_count, const uint64_t *delays, size_t delay_count,
+    uint64_t *list, size_t *count, uint64_t at, hk_bundle bundle, const uint64_t dates[4], const hk_choices *choices);
 
 /* hk_priority_dry_run and its kept twin: while no listed segment is empty, the offer starts at the first tick there is, not before the asked
    time and inside the window, from which the bundle has an end by the window's end and every instant up to it, the start itself included, is
-   booked below its priority; and 7 says that there is none. Booking a bundle smaller than what a tick carries can list an empty segment; then
-   a start can be hidden, or a booked tick offered (docs/PROMISES.md, 'The earliest place') */
+   booked below its priority; and 7 says that there is none. Under edition 1 booking a bundle smaller than what a tick carries can list an
+   empty segment; then a start can be hidden, or a booked tick offered (docs/PROMISES.md, 'The earliest place'). Under edition 2 no booking
+   adds one */
 
-/* the room left in a pass: what its free list adds up to. A bundle of that size need not fit, since the room may lie in several stretches */
+/* the room left in a pass: what its free list adds up to. A bundle of that size need not fit, since the room may lie in several stretches. Under
+   edition 1 a booking inside a stretch can raise it; under edition 2, opened so, it is what the listed ticks carry, and no booking raises it */
 hk_room hk_free_room(const hk_free *m);
 uint64_t hk_free_room_kept(const hk_free *m);
 

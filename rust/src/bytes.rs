@@ -3,8 +3,10 @@
 //! places only.
 //!
 //! A form that was written once is read for good: what it lacks is worked out,
-//! and the record then passes the same test as any other.
+//! or is what the original has, and the record then passes the same test as any
+//! other.
 
+use crate::choices::Choices;
 use crate::manager::{Manager, Record};
 use crate::record::{
     Bookings, Contact, DELAYS, FreeList, FreeVolume, LISTED, PolySeg, PrioritySeg, Queue,
@@ -14,10 +16,14 @@ use crate::segments::{BookingSegment, DelaySegment, Flags, Interval, Polynome, V
 
 /// Which record follows: the kinds of document 01's openings, and above them
 /// the record's form.
-const FREE: u8 = 0x11;
-const PRIORITY: u8 = 2;
+const FREE: u8 = 0x21;
+const PRIORITY: u8 = 0x12;
 const POLYNOMIAL: u8 = 3;
 const QUEUE: u8 = 4;
+
+/// The forms that records had before they named their choices.
+const FREE_WITHOUT_CHOICES: u8 = 0x11;
+const PRIORITY_WITHOUT_CHOICES: u8 = 2;
 
 /// The form that free-volume records had before they held their room.
 const FREE_WITHOUT_ROOM: u8 = 1;
@@ -151,18 +157,48 @@ fields! {
     Flags { add_delay, self_update, budgeted }
 }
 
+/// A count in one byte, and as many numbers. Bytes with fewer numbers than
+/// there are choices were written before the rest could be chosen.
+impl Bytes for Choices {
+    fn write(&self, out: &mut Vec<u8>) {
+        let mut choices = *self;
+        let places = choices.places();
+        (places.len() as u8).write(out);
+        places.iter().for_each(|place| place.write(out));
+    }
+
+    fn read(from: &mut &[u8]) -> Option<Self> {
+        let count = usize::from(u8::read(from)?);
+        let mut choices = Choices::default();
+        for place in choices.places().get_mut(..count)? {
+            **place = u64::read(from)?;
+        }
+        Some(choices)
+    }
+}
+
 impl Bytes for Contact {
     fn write(&self, out: &mut Vec<u8>) {
+        self.choices.write(out);
         self.window.write(out);
         write_list(&self.rates, self.rate_count, out);
         write_list(&self.delays, self.delay_count, out);
     }
 
     fn read(from: &mut &[u8]) -> Option<Self> {
+        let choices = Choices::read(from)?;
+        Contact::read_with(choices, from)
+    }
+}
+
+impl Contact {
+    /// The contact of these choices, from the bytes that follow them.
+    fn read_with(choices: Choices, from: &mut &[u8]) -> Option<Self> {
         let window = Interval::read(from)?;
         let (rates, rate_count) = read_list(from)?;
         let (delays, delay_count) = read_list(from)?;
         Some(Contact {
+            choices,
             window,
             rates,
             rate_count,
@@ -218,12 +254,17 @@ impl Bytes for FreeVolume {
 
     fn read(from: &mut &[u8]) -> Option<Self> {
         let form = u8::read(from)?;
-        let contact = Bytes::read(from)?;
+        let contact = match form {
+            FREE => Contact::read(from)?,
+            FREE_WITHOUT_CHOICES | FREE_WITHOUT_ROOM => {
+                Contact::read_with(Choices::default(), from)?
+            }
+            _ => return None,
+        };
         let free = FreeList::read(from)?;
         let room = match form {
-            FREE => u64::read(from)?,
             FREE_WITHOUT_ROOM => free.room()?,
-            _ => return None,
+            _ => u64::read(from)?,
         };
         Some(FreeVolume {
             contact,
@@ -241,9 +282,13 @@ impl Bytes for PrioritySeg {
     }
 
     fn read(from: &mut &[u8]) -> Option<Self> {
-        kind(PRIORITY, from)?;
+        let contact = match u8::read(from)? {
+            PRIORITY => Contact::read(from)?,
+            PRIORITY_WITHOUT_CHOICES => Contact::read_with(Choices::default(), from)?,
+            _ => return None,
+        };
         Some(PrioritySeg {
-            contact: Bytes::read(from)?,
+            contact,
             bookings: Bytes::read(from)?,
         })
     }

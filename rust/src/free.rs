@@ -1,6 +1,7 @@
 //! The free-volume manager: listed stretches of free time, each with the
 //! volume it still carries.
 
+use crate::choices::Choices;
 use crate::manager::Manager;
 use crate::record::{self, Opening, placed, used};
 use crate::refusal::Refusal;
@@ -30,13 +31,29 @@ use crate::segments::{DelaySegment, Interval, RateSegment, VolumeSegment};
 pub type FreeVolume = Manager<record::FreeVolume>;
 
 impl FreeVolume {
-    /// Opens a contact whose rates, and delays, cover exactly its window.
+    /// Opens a contact whose rates, and delays, cover exactly its window, with
+    /// the original's choices.
     pub fn open(
         window: Interval,
         rates: &[RateSegment],
         delays: &[DelaySegment],
     ) -> Result<Self, Refusal> {
-        Manager::opened(&opening(window, rates, delays))
+        Self::open_with(Choices::default(), window, rates, delays)
+    }
+
+    /// [`FreeVolume::open`] with these choices.
+    pub fn open_with(
+        choices: Choices,
+        window: Interval,
+        rates: &[RateSegment],
+        delays: &[DelaySegment],
+    ) -> Result<Self, Refusal> {
+        Manager::opened(&opening(choices, window, rates, delays))
+    }
+
+    /// What the contact was opened with.
+    pub fn choices(&self) -> Choices {
+        self.record().contact.choices
     }
 
     /// The free stretches, in order.
@@ -46,8 +63,14 @@ impl FreeVolume {
     }
 }
 
-pub(crate) fn opening(window: Interval, rates: &[RateSegment], delays: &[DelaySegment]) -> Opening {
+pub(crate) fn opening(
+    choices: Choices,
+    window: Interval,
+    rates: &[RateSegment],
+    delays: &[DelaySegment],
+) -> Opening {
     Opening {
+        choices,
         window,
         rates: placed(rates),
         rate_count: rates.len(),

@@ -17,6 +17,9 @@
 //! call that cannot be met answers with a [`Refusal`] and changes nothing. No
 //! call panics.
 //!
+//! The free-volume and the priority manager round a send's end as the original
+//! does, or with `open_with` as the relay's own rule does: [`Choices`] says how.
+//!
 //! A record can be taken out and put back, as bytes or as plain data:
 //!
 //! ```
@@ -39,6 +42,7 @@
 #![warn(missing_docs)]
 
 mod bytes;
+mod choices;
 mod free;
 #[allow(unsafe_code)]
 mod manager;
@@ -52,6 +56,7 @@ mod refusal;
 #[allow(missing_docs)]
 mod segments;
 
+pub use choices::Choices;
 pub use free::FreeVolume;
 pub use manager::{Manager, Record};
 pub use polynomial::PolySeg;

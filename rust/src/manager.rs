@@ -4,11 +4,13 @@
 //! Each call has two doors. The total one takes a whole record, tests it, and
 //! is safe with any record. The kept one tests nothing: it may be called only
 //! with a record that keeps its rules, and [`Manager`] holds no other. For the
-//! managers with lists it takes the record's parts, the lists as arrays of
-//! numbers, so that nothing is copied.
+//! managers with lists it takes the record's parts, the choices and the lists as
+//! arrays of numbers, so that nothing is copied.
 
 use std::mem::MaybeUninit;
+use std::ptr;
 
+use crate::choices::{self, Choices};
 use crate::record::{
     Bookings, Classes, FreeList, FreeVolume, Opening, PolySeg, PolynomialOpening, PrioritySeg,
     Queue, QueueOpening,
@@ -152,6 +154,10 @@ const _: () = assert!(size_of::<DelaySegment>() == WORDS);
 const _: () = assert!(size_of::<BookingSegment>() == WORDS);
 const _: () = assert!(align_of::<BookingSegment>() == align_of::<u64>());
 
+// And the choices are their count of numbers.
+const _: () = assert!(size_of::<Choices>() == choices::COUNT * size_of::<u64>());
+const _: () = assert!(align_of::<Choices>() == align_of::<u64>());
+
 fn words<T, const PLACES: usize>(places: &[T; PLACES]) -> *const u64 {
     places.as_ptr().cast()
 }
@@ -160,8 +166,12 @@ fn words_mut<T, const PLACES: usize>(places: &mut [T; PLACES]) -> *mut u64 {
     places.as_mut_ptr().cast()
 }
 
-// A manager over rates, delays and one list, and the figures that a booking
-// keeps up beside the list.
+fn chosen(choices: &Choices) -> *const u64 {
+    ptr::from_ref(choices).cast()
+}
+
+// A manager over choices, rates, delays and one list, and the figures that a
+// booking keeps up beside the list.
 macro_rules! kept {
     ($record:ident, $list:ident $(, $figure:ident)*: $dry_run:ident, $book:ident) => {
         unsafe extern "C" {
@@ -176,6 +186,7 @@ macro_rules! kept {
                 count: usize,
                 at: u64,
                 bundle: Bundle,
+                choices: *const u64,
             ) -> *mut Answer<Offer>;
             fn $book(
                 window: Interval,
@@ -189,14 +200,16 @@ macro_rules! kept {
                 at: u64,
                 bundle: Bundle,
                 offer: *const Offer,
+                choices: *const u64,
             ) -> u8;
         }
 
         impl Kept for $record {
             unsafe fn dry_run_kept(&self, at: u64, bundle: Bundle) -> Result<Offer, Refusal> {
                 let $record { contact, $list, .. } = self;
-                // SAFETY: the pointers are of this record's lists, with all
-                // their places; that it keeps its rules is asked of the caller.
+                // SAFETY: the pointers are of this record's choices and lists,
+                // with all their places; that it keeps its rules is asked of the
+                // caller.
                 answered(|out| unsafe {
                     $dry_run(
                         out,
@@ -209,6 +222,7 @@ macro_rules! kept {
                         $list.count,
                         at,
                         bundle,
+                        chosen(&contact.choices),
                     );
                 })
             }
@@ -239,6 +253,7 @@ macro_rules! kept {
                         at,
                         bundle,
                         &offer,
+                        chosen(&contact.choices),
                     )
                 })
             }
@@ -418,9 +433,14 @@ impl Manager<FreeVolume> {
     /// booking keeps up. One read, whatever is listed.
     ///
     /// A bundle of this size need not fit, since the room may lie in several
-    /// stretches; and a booking inside a stretch works its volumes out anew, so
-    /// that the room can rise by it. It never exceeds what the listed time
-    /// carries at the contact's rates.
+    /// stretches. It never exceeds what the listed time carries at the contact's
+    /// rates.
+    ///
+    /// Under edition 1 of the end rule (see [`Choices`]) a booking at a stretch's
+    /// start takes its size off the volume, and one inside a stretch works the
+    /// volumes out anew, so that the room can rise by it. Under edition 2 every
+    /// booking works them out anew: the room of a contact opened so is exactly
+    /// what the listed time carries, and no booking raises it.
     #[inline]
     pub fn room(&self) -> u64 {
         // SAFETY: the pointer is of a reference; the record of a manager keeps

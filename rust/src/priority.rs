@@ -1,5 +1,6 @@
 //! The priority manager: the whole window, and what each stretch is booked for.
 
+use crate::choices::Choices;
 use crate::free::opening;
 use crate::manager::Manager;
 use crate::record::{self, used};
@@ -34,13 +35,15 @@ use crate::segments::{BookingSegment, DelaySegment, Interval, RateSegment};
 /// is: the least one, not before the asked time and inside the window, from
 /// which the bundle has an end by the window's end, and from which every instant
 /// up to that end, the start itself included, is booked below its priority. A
-/// [`Refusal::NO_OFFER`] says that there is none. This is proved for every such
-/// record and every bundle, of the library's calls that this type makes; and the
-/// offer is the same when it is asked for again, at any time up to its start.
+/// [`Refusal::NO_OFFER`] says that there is none. This is proved for edition 1
+/// of the end rule (see [`Choices`]), for every such record and every bundle, of
+/// the library's calls that this type makes; and the offer is the same when it
+/// is asked for again, at any time up to its start.
 ///
-/// A bundle that is smaller than what one tick carries is sent in no time, and
-/// booking it inside a stretch lists an empty one. Then a tick can be offered
-/// that is booked, or a start be hidden, as here:
+/// Under edition 1 a bundle that is smaller than what one tick carries is sent in
+/// no time, and booking it inside a stretch lists an empty one. Then a tick can be
+/// offered that is booked, or a start be hidden, as here. Under edition 2 every
+/// send has a length, so that no booking adds an empty stretch.
 ///
 /// ```
 /// # use howrekano::{Bundle, DelaySegment, Interval, PrioritySeg, RateSegment, Refusal};
@@ -58,18 +61,41 @@ use crate::segments::{BookingSegment, DelaySegment, Interval, RateSegment};
 /// contact.book(1, small, offer)?;
 /// assert!(!is_first_start_told(&contact));                // [1,1) is listed
 /// assert_eq!(contact.dry_run(0, all), Err(Refusal::NO_OFFER)); // though both ticks are free
+///
+/// # use howrekano::Choices;
+/// let second = Choices { edition: 2, ..Choices::default() };
+/// let mut contact = PrioritySeg::open_with(second, window, &rates, &delays)?;
+/// let offer = contact.dry_run(1, small)?;                 // sent from 1 to 2
+/// contact.book(1, small, offer)?;
+/// assert!(contact.list().iter().all(|s| s.start < s.end)); // [0,1) and [1,2) are listed
 /// # Ok::<(), howrekano::Refusal>(())
 /// ```
 pub type PrioritySeg = Manager<record::PrioritySeg>;
 
 impl PrioritySeg {
-    /// Opens a contact whose rates, and delays, cover exactly its window.
+    /// Opens a contact whose rates, and delays, cover exactly its window, with
+    /// the original's choices.
     pub fn open(
         window: Interval,
         rates: &[RateSegment],
         delays: &[DelaySegment],
     ) -> Result<Self, Refusal> {
-        Manager::opened(&opening(window, rates, delays))
+        Self::open_with(Choices::default(), window, rates, delays)
+    }
+
+    /// [`PrioritySeg::open`] with these choices.
+    pub fn open_with(
+        choices: Choices,
+        window: Interval,
+        rates: &[RateSegment],
+        delays: &[DelaySegment],
+    ) -> Result<Self, Refusal> {
+        Manager::opened(&opening(choices, window, rates, delays))
+    }
+
+    /// What the contact was opened with.
+    pub fn choices(&self) -> Choices {
+        self.record().contact.choices
     }
 
     /// The window's stretches, in order, each with what it is booked for.

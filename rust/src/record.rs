@@ -1,6 +1,7 @@
 //! The managers' records, their openings' figures and their lists, laid out as
 //! in the library: plain data with fixed places.
 
+use crate::choices::Choices;
 use crate::segments::{
     BookingSegment, DelaySegment, Flags, Interval, Polynome, RateSegment, VolumeSegment,
 };
@@ -10,10 +11,11 @@ pub const DELAYS: usize = 16;
 pub const LISTED: usize = 64;
 pub const CLASSES: usize = 8;
 
-/// Window, rates and delays of a contact; rates are held as volumes.
+/// Choices, window, rates and delays of a contact; rates are held as volumes.
 #[repr(C)]
 #[derive(Clone, Copy, Debug, PartialEq, Eq)]
 pub struct Contact {
+    pub choices: Choices,
     pub window: Interval,
     pub rates: [VolumeSegment; RATES],
     pub rate_count: usize,
@@ -78,6 +80,7 @@ pub struct Queue {
 #[repr(C)]
 #[derive(Clone, Copy, Debug, PartialEq, Eq)]
 pub struct Opening {
+    pub choices: Choices,
     pub window: Interval,
     pub rates: [RateSegment; RATES],
     pub rate_count: usize,

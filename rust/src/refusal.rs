@@ -25,6 +25,8 @@ pub struct Refusal(u8);
 impl Refusal {
     pub const RECORD: Refusal = Refusal(1);
     pub const BUNDLE: Refusal = Refusal(2);
+    /// At an opening, 2 is for a choice that there is not.
+    pub const CHOICE: Refusal = Self::BUNDLE;
     pub const WINDOW: Refusal = Refusal(3);
     pub const RATES: Refusal = Refusal(4);
     pub const DELAYS: Refusal = Refusal(5);
@@ -69,8 +71,8 @@ impl Refusal {
                 "it was damaged on its way: take it from a copy, or open the contact anew",
             ),
             Self::BUNDLE => (
-                "the time, the size or the priority is outside its limits",
-                "ask at a time of 0 to 2^40 for a size of 1 to 2^38 with a priority of 0 to 127",
+                "the time, the size or the priority is outside its limits, or an opening names a choice that there is not",
+                "ask at a time of 0 to 2^40 for a size of 1 to 2^38 with a priority of 0 to 127; open a contact with edition 1 or 2",
             ),
             Self::WINDOW => (
                 "the window is outside its limits",

@@ -2,7 +2,7 @@
 //! damaged: random records, calls and damage.
 
 use howrekano::{
-    Bundle, DelaySegment, Flags, FreeVolume, Interval, Manager, Offer, PolySeg, Polynome,
+    Bundle, Choices, DelaySegment, Flags, FreeVolume, Interval, Manager, Offer, PolySeg, Polynome,
     PrioritySeg, Queue, RateSegment, Record, Refusal, record,
 };
 
@@ -51,6 +51,12 @@ fn rates(rng: &mut Rng) -> [RateSegment; 2] {
         end,
         rate: rng.below(6),
     })
+}
+
+fn choices(rng: &mut Rng) -> Choices {
+    Choices {
+        edition: 1 + rng.below(2),
+    }
 }
 
 /// Calls by both doors; the records stay the same.
@@ -125,7 +131,9 @@ fn tampers<R: Record>(
 fn free_volume() {
     let mut rng = Rng(11);
     for _ in 0..300 {
-        let mut manager = FreeVolume::open(WINDOW, &rates(&mut rng), &delays(&mut rng)).unwrap();
+        let choices = choices(&mut rng);
+        let opened = FreeVolume::open_with(choices, WINDOW, &rates(&mut rng), &delays(&mut rng));
+        let mut manager = opened.unwrap();
         talk(&mut rng, &mut manager, |m| {
             let sum: u64 = m.list().iter().map(|segment| segment.volume).sum();
             assert_eq!(m.room(), sum);
@@ -152,7 +160,9 @@ fn free_volume() {
 fn priority() {
     let mut rng = Rng(12);
     for _ in 0..300 {
-        let mut manager = PrioritySeg::open(WINDOW, &rates(&mut rng), &delays(&mut rng)).unwrap();
+        let choices = choices(&mut rng);
+        let opened = PrioritySeg::open_with(choices, WINDOW, &rates(&mut rng), &delays(&mut rng));
+        let mut manager = opened.unwrap();
         talk(&mut rng, &mut manager, |m| m.record().bookings);
         assert_eq!(PrioritySeg::from_bytes(&manager.to_bytes()), Ok(manager));
         tampers(&mut rng, &manager.to_bytes(), PrioritySeg::from_bytes);

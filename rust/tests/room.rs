@@ -97,10 +97,10 @@ fn bytes_hold_it_and_those_of_the_earlier_form_are_read() {
     after(&mut contact, 3, 15);
     let earlier = bytes(EARLIER);
     assert_eq!(FreeVolume::from_bytes(&earlier), Ok(contact));
-    // The form now: another first byte, and the room at the end.
+    // The form now: another first byte, the choices, and the room at the end.
     let now = contact.to_bytes();
-    assert_eq!(now[0], 0x11);
-    assert_eq!(now[1..now.len() - 8], earlier[1..]);
+    assert_eq!(now[..10], bytes("21 01 0000000000000001"));
+    assert_eq!(now[10..now.len() - 8], earlier[1..]);
     assert_eq!(now[now.len() - 8..], 90_u64.to_be_bytes());
     assert_eq!(FreeVolume::from_bytes(&now), Ok(contact));
 }
@@ -125,7 +125,7 @@ fn bytes_with_another_room_or_of_no_form_are_refused() {
     large[length - 24 - 8] = 0xff;
     large[length - 8] = 0xff;
     assert_eq!(FreeVolume::from_bytes(&large), damaged);
-    for first in [0, 2, 3, 4, 0x12, 0x21, 0xff] {
+    for first in [0, 2, 3, 4, 0x11, 0x12, 0x31, 0xff] {
         other.clone_from(&now);
         other[0] = first;
         assert_eq!(FreeVolume::from_bytes(&other), damaged, "{first}");
