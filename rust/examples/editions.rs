@@ -70,8 +70,12 @@ fn opened(edition: u64) -> Result<Pass, Refusal> {
         end,
         delay: 3,
     }];
+    let choices = Choices {
+        edition,
+        ..Choices::default()
+    };
     Ok(Pass {
-        contact: FreeVolume::open_with(Choices { edition }, WINDOW, &rates, &delays)?,
+        contact: FreeVolume::open_with(choices, WINDOW, &rates, &delays)?,
         sizes: 0,
         ticks: 0,
     })

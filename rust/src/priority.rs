@@ -35,7 +35,7 @@ use crate::segments::{BookingSegment, DelaySegment, Interval, RateSegment};
 /// is: the least one, not before the asked time and inside the window, from
 /// which the bundle has an end by the window's end, and from which every instant
 /// up to that end, the start itself included, is booked below its priority. A
-/// [`Refusal::NO_OFFER`] says that there is none. This is proved for edition 1
+/// [`Refusal::NO_OFFER`] says that there is none. This is proved for both editions
 /// of the end rule (see [`Choices`]), for every such record and every bundle, of
 /// the library's calls that this type makes; and the offer is the same when it
 /// is asked for again, at any time up to its start.
@@ -43,7 +43,7 @@ use crate::segments::{BookingSegment, DelaySegment, Interval, RateSegment};
 /// Under edition 1 a bundle that is smaller than what one tick carries is sent in
 /// no time, and booking it inside a stretch lists an empty one. Then a tick can be
 /// offered that is booked, or a start be hidden, as here. Under edition 2 every
-/// send has a length, so that no booking adds an empty stretch.
+/// send has a length, so that no booking adds an empty stretch; that is proved too.
 ///
 /// ```
 /// # use howrekano::{Bundle, DelaySegment, Interval, PrioritySeg, RateSegment, Refusal};

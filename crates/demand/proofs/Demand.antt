@@ -2,7 +2,7 @@
 use Prim.Native.Nat.{ℕ, _-_}
 use mathlib.Core.Bool.{true}
 use mathlib.Core.Path.{_≡_, refl, sym, ap, _∙_}
-use mathlib.Core.List.{List, []}
+use mathlib.Core.List.{List, [], _∷_}
 use native.Mathlib.Omega.{arith}
 use mathlib.Core.Logic.{⊎-elim}
 use lib.ListN.{length}
@@ -30,10 +30,10 @@ use Rattle.seg.proofs.FreeVolume.open.Reads as open-reads
 use Rattle.seg.proofs.FreeVolume.dry_run.Reads as dry-run-reads
 use Rattle.seg.proofs.FreeVolume.book.Reads as book-reads
 use Rattle.seg.proofs.FreeVolume.list.Reads as list-reads
-use Rattle.demand.specs.Calls.{State, Promises, Runs, done, dry-run, list, book, logged}
+use Rattle.demand.specs.Calls.{State, Promises, Runs, done, dry-run, list, book, entry, logged}
 use Rattle.demand.specs.Instants.{AllClear, Pairwise, AllIn, sizeSum, Demand}
 use Rattle.demand.proofs.Held.{capSum, held-sum}
-use Rattle.demand.proofs.Keeping.{Sums, Keeping, book-keeping}
+use Rattle.demand.proofs.Keeping.{Sums, Keeping, accepted-keeps}
 
 -- the promises of the manager's calls, as src/ has them
 pub promised : Promises
@@ -46,27 +46,37 @@ promised =
 
 -- what every booking keeps, any calls keep
 module _ (P : State → Type 0) (step : (x : State) (at : Date) (b : Bundle) (d : TxData) (a : Booked) → a ≡ bookOf (x .manager) at b d → P x → P (record { manager = a .manager; log = logged b d a (x .log) })) where
-  pub run-all : (x y : State) → P x → Runs promised x y → P y
+  run-all : (x y : State) → P x → Runs promised x y → P y
   unfolding promised
   run-all x y q done = q
   run-all x y q (dry-run at b o p rest) = run-all x y q rest
   run-all x y q (list o p rest) = run-all x y q rest
   run-all x y q (book at b d a p rest) = run-all _ y (step x at b d a (p .1) q) rest
 
+-- so, of records that keep their rules, what every accepted booking keeps: a refused one changes nothing
+module _ (P : State → Type 0) (ok : (x : State) → P x → recordOk (x .manager) ≡ true)
+    (step : (x : State) (q : P x) (at : Date) (b : Bundle) (d : TxData) → Accepted (x .manager) at b d (bookOf (x .manager) at b d)
+    → P (record { manager = bookOf (x .manager) at b d .manager; log = entry b d ∷ x .log })) where
+  pub run-accepted : (x y : State) → P x → Runs promised x y → P y
+  run-accepted =
+      run-all P
+      (λ x at b d a is q.
+      rw is
+      (⊎-elim
+      (λ (r : Refused (x .manager) (bookOf (x .manager) at b d)). rw (r .same, ne-eqb (bookOf (x .manager) at b d .number) 0 (r .number)) q)
+      (λ (y : Accepted (x .manager) at b d (bookOf (x .manager) at b d)). rw (eq-eqb (bookOf (x .manager) at b d .number) 0 (y .number)) (step x q at b d y))
+      (book-cases (x .manager) at b d (ok x q))))
+
 -- no call changes the contact, nor the edition that it names
 pub run-contact : (x y : State) → recordOk (x .manager) ≡ true → Runs promised x y → y .manager .contact ≡ x .manager .contact
 run-contact x y ok runs =
-    run-all (λ z. (recordOk (z .manager) ≡ true) × (z .manager .contact ≡ x .manager .contact))
-    (λ z at b d a is q.
-    rw is
-    (⊎-elim
-    (λ (r : Refused (z .manager) (bookOf (z .manager) at b d)). rw (r .same) q)
-    (λ (k : Accepted (z .manager) at b d (bookOf (z .manager) at b d)). (book-keeps (z .manager) at b d (q .0), ap (λ (m : FreeVolume). m .contact) (k .manager) ∙ q .1))
-    (book-cases (z .manager) at b d (q .0))))
+    run-accepted (λ z. (recordOk (z .manager) ≡ true) × (z .manager .contact ≡ x .manager .contact))
+    (λ z q. q .0)
+    (λ z q at b d k. (book-keeps (z .manager) at b d (q .0), ap (λ (m : FreeVolume). m .contact) (k .manager) ∙ q .1))
     x y (ok, refl) runs .1
 
 run-keeps : (x y : State) → Keeping x → Runs promised x y → Keeping y
-run-keeps = run-all Keeping (λ x at b d a is q. book-keeping x q at b d a is)
+run-keeps = run-accepted Keeping (λ x q. q .ok) accepted-keeps
 
 no-sums : (k r : ℕ) → Sums k r 0 0 0
 no-sums k r =

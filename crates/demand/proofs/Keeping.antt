@@ -24,8 +24,8 @@ use Rattle.seg.specs.declared.Booked.{Booked}
 use Rattle.seg.specs.Record.{recordOk}
 use Rattle.seg.specs.Book.{bookOf}
 use Rattle.seg.proofs.Facts.{facts, found-offered}
-use Rattle.seg.proofs.Kept.{Refused, Accepted, book-cases, book-keeps}
-use Rattle.demand.specs.Calls.{Booking, State, logged}
+use Rattle.seg.proofs.Kept.{Accepted, book-keeps}
+use Rattle.demand.specs.Calls.{Booking, State, entry}
 use Rattle.demand.specs.Instants.{AllClear, AllApart, Pairwise, AllIn, sizeSum, Within}
 use Rattle.demand.proofs.Held.{capSum}
 
@@ -67,14 +67,11 @@ module _ (k : ℕ) (l : List VolumeSegment) (top hi s e v : ℕ) (f : List Volum
   log-apart [] c = tt
   log-apart (b ∷ log) c = (clear-apart k l top hi s e v (b .send .start .0) (b .send .end .0) f i (c .0) h, log-apart log (c .1))
 
-module _ (x : State) (q : Keeping x) (at : Date) (b : Bundle) (d : TxData) (a : Booked) (is : a ≡ bookOf (x .manager) at b d) where
-  abbrev next : State
-  next = record { manager = a .manager; log = logged b d a (x .log) }
+module _ (x : State) (q : Keeping x) (at : Date) (b : Bundle) (d : TxData) where
+  abbrev booked : Booked
+  booked = bookOf (x .manager) at b d
 
-  refused-keeps : Refused (x .manager) a → Keeping next
-  refused-keeps r = rw (r .same, ne-eqb (a .number) 0 (r .number)) q
-
-  accepted-keeps : Accepted (x .manager) at b d a → Keeping next
+  pub accepted-keeps : Accepted (x .manager) at b d booked → Keeping (record { manager = booked .manager; log = entry b d ∷ x .log })
   unfolding AllClear Pairwise AllIn capSum sizeSum
   accepted-keeps y =
       let r = x .manager in
@@ -89,20 +86,11 @@ module _ (x : State) (q : Keeping x) (at : Date) (b : Bundle) (d : TxData) (a : 
       let o = found-offered r fs (at .0) v (y .some) (y .place) (d .send) (y .found) in
       let n : Ends k l (topOf l) s v _ e = offered-ends k l (topOf l) s e v f (y .place) o .1 in
       let w = offered-inside k l (topOf l) hi s e v f _ (y .place) (fs .free) o in
-      let ok : recordOk (a .manager) ≡ true = rw is (book-keeps r at b d (q .ok)) in
       let left = listed-in (cutOf k l f (y .place) s e v) in
-      rw (eq-eqb (a .number) 0 (y .number))
-      (record {
-        ok = ok;
+      record {
+        ok = book-keeps r at b d (q .ok);
         apart = (log-apart k l (topOf l) hi s e v f (y .place) o (x .log) (q .clear), q .apart);
         clear = rw (y .manager, left) (cut-own k l (topOf l) hi s e v f _ (y .place) (fs .free) o, log-clear k l (topOf l) hi s e v f (y .place) o (x .log) (q .clear));
         inside = rw (y .manager) (w .0, n .forth, w .1, q .inside);
         sums = rw (y .manager) (sums-add k (topOf l) (length (x .log)) (capacity l s e) v (capSum l (x .log)) (sizeSum (x .log)) (n .near) (q .sums));
-      })
-
-  pub book-keeping : Keeping next
-  book-keeping =
-      ⊎-elim
-      (λ (y : Refused (x .manager) (bookOf (x .manager) at b d)). refused-keeps (rw is y))
-      (λ (y : Accepted (x .manager) at b d (bookOf (x .manager) at b d)). accepted-keeps (rw is y))
-      (book-cases (x .manager) at b d (q .ok))
+      }

@@ -4,10 +4,8 @@ use Prim.Native.Nat.{ℕ, _+_, _-_, _*_, _≤_}
 use mathlib.Core.Bool.{true}
 use mathlib.Core.Path.{_≡_, sym, ap, _∙_}
 use mathlib.Core.List.{List, [], _∷_}
-use mathlib.Core.Logic.{⊎-elim}
 use native.Mathlib.Omega.{arith}
 use lib.ListN.{length}
-use borrow.Author.Tests.{eq-eqb, ne-eqb}
 use Rattle.units.specs.Limits.{segmentsMax}
 use Rattle.units.specs.declared.Date.{Date}
 use Rattle.units.specs.declared.Interval.{Interval}
@@ -22,53 +20,39 @@ use Rattle.contact.specs.declared.Contact.{Contact}
 use Rattle.contact.specs.Record.{ratesOf, editionOf, totalIn}
 use Rattle.seg.specs.declared.FreeVolume.{FreeVolume}
 use Rattle.seg.specs.declared.Opened.{Opened}
-use Rattle.seg.specs.declared.Booked.{Booked}
 use Rattle.seg.specs.Record.{recordOk}
 use Rattle.seg.specs.Book.{bookOf}
-use Rattle.seg.proofs.Kept.{Refused, Accepted, opened-keeps, book-cases, book-keeps}
+use Rattle.seg.proofs.Kept.{Accepted, opened-keeps, book-keeps}
 use Rattle.seg.proofs.RoomBounds.{listedTime, room-time, time-total, booked-falls}
 use Rattle.seg.proofs.FreeVolume.open.Reads as open-reads
-use Rattle.demand.specs.Calls.{State, Runs, logged}
+use Rattle.demand.specs.Calls.{State, Runs, entry}
 use Rattle.demand.specs.Instants.{sizeSum, carried}
 use Rattle.demand.proofs.Held.{capSum, held-sum}
-use Rattle.demand.proofs.Demand.{promised, run-all, demand-3}
+use Rattle.demand.proofs.Demand.{promised, run-accepted, demand-3}
 
 -- the exact capacity of the listed time and of the bookings
 record Left (x : State) : Type 0 where
   pub ok : recordOk (x .manager) ≡ true
   pub time : listedTime (x .manager) + capSum (ratesOf (x .manager .contact)) (x .log) ≤ totalIn (x .manager .contact)
 
-module _ (x : State) (q : Left x) (at : Date) (b : Bundle) (d : TxData) where
-  abbrev booked : Booked
-  booked = bookOf (x .manager) at b d
-
-  abbrev next : State
-  next = record { manager = booked .manager; log = logged b d booked (x .log) }
-
-  refused-left : Refused (x .manager) booked → Left next
-  refused-left r = rw (r .same, ne-eqb (booked .number) 0 (r .number)) q
-
-  accepted-left : Accepted (x .manager) at b d booked → Left next
-  unfolding capSum
-  accepted-left y =
-      let same : booked .manager .contact ≡ x .manager .contact = ap (λ (m : FreeVolume). m .contact) (y .manager) in
-      rw (eq-eqb (booked .number) 0 (y .number))
-      (record {
-        ok = book-keeps (x .manager) at b d (q .ok);
-        time = omega (
-          arith,
-          ap (λ (c : Contact). capSum (ratesOf c) (record { send = d .send; size = b .size .0 } ∷ x .log)) same,
-          ap totalIn same,
-          booked-falls (x .manager) (q .ok) at b d (y .number) .0,
-          q .time,
-        );
-      })
-
-  book-left : Left next
-  book-left = ⊎-elim refused-left accepted-left (book-cases (x .manager) at b d (q .ok))
+accepted-left : (x : State) (q : Left x) (at : Date) (b : Bundle) (d : TxData) → Accepted (x .manager) at b d (bookOf (x .manager) at b d)
+    → Left (record { manager = bookOf (x .manager) at b d .manager; log = entry b d ∷ x .log })
+unfolding capSum
+accepted-left x q at b d y =
+    let same : bookOf (x .manager) at b d .manager .contact ≡ x .manager .contact = ap (λ (m : FreeVolume). m .contact) (y .manager) in
+    record {
+      ok = book-keeps (x .manager) at b d (q .ok);
+      time = omega (
+        arith,
+        ap (λ (c : Contact). capSum (ratesOf c) (entry b d ∷ x .log)) same,
+        ap totalIn same,
+        booked-falls (x .manager) (q .ok) at b d (y .number) .0,
+        q .time,
+      );
+    }
 
 run-left : (x y : State) → Left x → Runs promised x y → Left y
-run-left = run-all Left (λ x at b d a is q. rw is (book-left x q at b d))
+run-left = run-accepted Left (λ x q. q .ok) accepted-left
 
 fresh-left : (o : Opened) → recordOk (o .manager) ≡ true → Left (record { manager = o .manager; log = [] })
 unfolding capSum

@@ -4,10 +4,8 @@ use Prim.Native.Nat.{ℕ, _+_}
 use mathlib.Core.Bool.{true}
 use mathlib.Core.Path.{_≡_, sym, ap, _∙_}
 use mathlib.Core.List.{List, [], _∷_}
-use mathlib.Core.Logic.{⊎-elim}
 use native.Mathlib.Omega.{arith}
 use lib.ListN.{length}
-use borrow.Author.Tests.{eq-eqb, ne-eqb}
 use Rattle.units.specs.Limits.{segmentsMax}
 use Rattle.units.specs.declared.Date.{Date}
 use Rattle.units.specs.declared.Interval.{Interval}
@@ -23,17 +21,16 @@ use Rattle.free_list.specs.Cut.{listed}
 use Rattle.free_list.specs.Room.{listedCapacity, Exactly}
 use Rattle.seg.specs.declared.FreeVolume.{FreeVolume}
 use Rattle.seg.specs.declared.Opened.{Opened}
-use Rattle.seg.specs.declared.Booked.{Booked}
 use Rattle.seg.specs.Record.{recordOk}
 use Rattle.seg.specs.Book.{bookOf}
-use Rattle.seg.proofs.Kept.{Refused, Accepted, opened-keeps, book-cases, book-keeps}
+use Rattle.seg.proofs.Kept.{Accepted, opened-keeps, book-keeps}
 use Rattle.seg.proofs.RoomBounds.{listedTime}
 use Rattle.seg.proofs.Second.{ExactlyIn, room-exactly, opened-exactly, opened-time, opened-edition, booked-exactly, booked-time}
 use Rattle.seg.proofs.FreeVolume.open.Reads as open-reads
-use Rattle.demand.specs.Calls.{State, Runs, logged}
+use Rattle.demand.specs.Calls.{State, Runs, entry}
 use Rattle.demand.specs.Instants.{carried}
 use Rattle.demand.proofs.Held.{capSum, held-sum}
-use Rattle.demand.proofs.Demand.{promised, run-all, demand-3}
+use Rattle.demand.proofs.Demand.{promised, run-accepted, demand-3}
 
 -- the record's volumes are exact, and what is listed and what is booked make up the pass
 record Whole (x : State) : Type 0 where
@@ -42,39 +39,26 @@ record Whole (x : State) : Type 0 where
   pub exactly : ExactlyIn (x .manager)
   pub time : listedTime (x .manager) + capSum (ratesOf (x .manager .contact)) (x .log) ≡ totalIn (x .manager .contact)
 
-module _ (x : State) (q : Whole x) (at : Date) (b : Bundle) (d : TxData) where
-  abbrev booked : Booked
-  booked = bookOf (x .manager) at b d
-
-  abbrev next : State
-  next = record { manager = booked .manager; log = logged b d booked (x .log) }
-
-  refused-whole : Refused (x .manager) booked → Whole next
-  refused-whole r = rw (r .same, ne-eqb (booked .number) 0 (r .number)) q
-
-  accepted-whole : Accepted (x .manager) at b d booked → Whole next
-  unfolding capSum
-  accepted-whole y =
-      let same : booked .manager .contact ≡ x .manager .contact = ap (λ (m : FreeVolume). m .contact) (y .manager) in
-      rw (eq-eqb (booked .number) 0 (y .number))
-      (record {
-        ok = book-keeps (x .manager) at b d (q .ok);
-        edition = ap editionOf same ∙ q .edition;
-        exactly = booked-exactly (x .manager) at b d (q .ok) (q .edition) (q .exactly);
-        time = omega (
-          arith,
-          ap (λ (c : Contact). capSum (ratesOf c) (record { send = d .send; size = b .size .0 } ∷ x .log)) same,
-          ap totalIn same,
-          booked-time (x .manager) at b d (q .ok) (q .edition) y,
-          q .time,
-        );
-      })
-
-  book-whole : Whole next
-  book-whole = ⊎-elim refused-whole accepted-whole (book-cases (x .manager) at b d (q .ok))
+accepted-whole : (x : State) (q : Whole x) (at : Date) (b : Bundle) (d : TxData) → Accepted (x .manager) at b d (bookOf (x .manager) at b d)
+    → Whole (record { manager = bookOf (x .manager) at b d .manager; log = entry b d ∷ x .log })
+unfolding capSum
+accepted-whole x q at b d y =
+    let same : bookOf (x .manager) at b d .manager .contact ≡ x .manager .contact = ap (λ (m : FreeVolume). m .contact) (y .manager) in
+    record {
+      ok = book-keeps (x .manager) at b d (q .ok);
+      edition = ap editionOf same ∙ q .edition;
+      exactly = booked-exactly (x .manager) at b d (q .ok) (q .edition) (q .exactly);
+      time = omega (
+        arith,
+        ap (λ (c : Contact). capSum (ratesOf c) (entry b d ∷ x .log)) same,
+        ap totalIn same,
+        booked-time (x .manager) at b d (q .ok) (q .edition) y,
+        q .time,
+      );
+    }
 
 run-whole : (x y : State) → Whole x → Runs promised x y → Whole y
-run-whole = run-all Whole (λ x at b d a is q. rw is (book-whole x q at b d))
+run-whole = run-accepted Whole (λ x q. q .ok) accepted-whole
 
 module _ (h : Choices) (w : Interval) (rates : List RateSegment) (m : ℕ) (delays : List DelaySegment) (k : ℕ) (o : Opened) (y : State)
     (rate-size : length rates ≡ segmentsMax) (delay-size : length delays ≡ segmentsMax)

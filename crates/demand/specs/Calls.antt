@@ -1,6 +1,6 @@
 -- Demand 3: open the free-volume manager fresh and make any calls but openings, refused ones too, each on the record the last one handed back.
 use Prim.Native.Nat.{ℕ}
-use mathlib.Core.List.{List, [], _∷_}
+use mathlib.Core.List.{List, _∷_}
 use lib.Dec.{eqb}
 use Rattle.units.specs.declared.Date.{Date}
 use Rattle.units.specs.declared.Interval.{Interval}
@@ -28,9 +28,13 @@ pub record Promises : Type 1 where
   pub book : FreeVolume → Date → Bundle → TxData → Booked → Type 0
   pub list : FreeVolume → Listing → Type 0
 
+-- what is booked, as the log has it
+abbrev pub entry : Bundle → TxData → Booking
+entry b d = record { send = d .send; size = b .size .0 }
+
 -- the log with the booking added, if its number is 0
 abbrev pub logged : Bundle → TxData → Booked → List Booking → List Booking
-logged b d a log = pick (eqb (a .number) 0) (record { send = d .send; size = b .size .0 } ∷ log) log
+logged b d a log = pick (eqb (a .number) 0) (entry b d ∷ log) log
 
 -- any calls, each with any answer that its promise allows, one after the other
 pub data Runs (P : Promises) : State → State → Type 0 where
