@@ -28,11 +28,15 @@ use Rattle.pseg.specs.Open.{openOf as openPriority}
 use Rattle.pseg.specs.DryRun.{dryRunOf as dryRunPriority}
 use Rattle.pseg.specs.Book.{bookOf as bookPriority}
 use Rattle.pseg.specs.List.{listOf as listPriority}
-use Rattle.poly.specs.Poly.{stepOf, hornerOf, capacityTo, magOf, rangeOk, coefficientsOk, polyOk}
-use Rattle.poly.specs.Search.{areaFrom, halveOf, findEnd}
+use Rattle.poly.specs.Integral.{integral12}
+use Rattle.poly.specs.Poly.{stepOf, hornerOf, capacityTo, termOf, magOf, rangeOk, coefficientsOk, polyOk}
+use Rattle.poly.specs.Search.{wantedOf, areaFrom, halveOf, findEnd}
+use Rattle.poly_seg.specs.Choices.{choicesOk as polynomialChoicesOk}
 use Rattle.poly_seg.specs.Open.{delayOk, delaysOk as polynomialDelaysOk, openOf as openPolynomial}
 use Rattle.poly_seg.specs.Record.{recordOk as polynomialRecordOk}
 use Rattle.poly_seg.specs.DryRun.{offerOf as offerPolynomial, dryRunOf as dryRunPolynomial}
+use Rattle.poly_seg.specs.Book.{bookOf as bookPolynomial}
+use Rattle.poly_seg.specs.List.{listOf as listPolynomial}
 use Rattle.legacy.specs.Open.{rateOk, budgetsOk, openOf as openQueue}
 use Rattle.legacy.specs.Record.{recordOk as queueRecordOk}
 use Rattle.legacy.specs.DryRun.{answerAt, dryRunOf as dryRunQueue}
@@ -45,5 +49,5 @@ use Rattle.cases.specs.Table.{table}
 use Rattle.cases.specs.Claim.{openingOf, listAs, answerOf, nextOf, answersOf, saidOf, Holds}
 
 pub cases : Holds table
-unfolding roomOf both allOf windowOk loadOk bundleOk sameDates offers padded rateAt capOf tickOf closeOf endOf fromDate delaysOf spans covers delaysOk noVolume noDelay totalOf volumeOk choicesOk openContact contactOk segmentOk listOk furtherOf offerOf leftOf cutOf cutList freeOk freeRecordOk openFree dryRunFree bookFree listFree follows coverOk noBooking reachOf beginOf brokenOf freeOf turnOf searchOf partsOf setOf setBookings bookingsOk priorityRecordOk openPriority dryRunPriority bookPriority listPriority stepOf hornerOf capacityTo magOf rangeOk coefficientsOk polyOk areaFrom halveOf findEnd delayOk polynomialDelaysOk openPolynomial polynomialRecordOk offerPolynomial dryRunPolynomial rateOk budgetsOk openQueue queueRecordOk answerAt dryRunQueue addTo enqueueAt bookQueue listQueue keptFree keptPriority keptPolynomial keptQueue dryRunAs bookAs openingOf listAs answerOf nextOf answersOf saidOf Holds
-cases = (refl, refl, (refl, refl, (refl, refl, (refl, refl, (refl, refl, (refl, refl, (refl, refl, (refl, refl, (refl, refl, (refl, refl, (refl, refl, (refl, refl, (refl, refl, (refl, refl, (refl, refl, (refl, refl, tt))))))))))))))))
+unfolding roomOf both allOf windowOk loadOk bundleOk sameDates offers padded rateAt capOf tickOf closeOf endOf fromDate delaysOf spans covers delaysOk noVolume noDelay totalOf volumeOk choicesOk openContact contactOk segmentOk listOk furtherOf offerOf leftOf cutOf cutList freeOk freeRecordOk openFree dryRunFree bookFree listFree follows coverOk noBooking reachOf beginOf brokenOf freeOf turnOf searchOf partsOf setOf setBookings bookingsOk priorityRecordOk openPriority dryRunPriority bookPriority listPriority integral12 stepOf hornerOf capacityTo termOf magOf rangeOk coefficientsOk polyOk wantedOf areaFrom halveOf findEnd polynomialChoicesOk delayOk polynomialDelaysOk openPolynomial polynomialRecordOk offerPolynomial dryRunPolynomial bookPolynomial listPolynomial rateOk budgetsOk openQueue queueRecordOk answerAt dryRunQueue addTo enqueueAt bookQueue listQueue keptFree keptPriority keptPolynomial keptQueue dryRunAs bookAs openingOf listAs answerOf nextOf answersOf saidOf Holds
+cases = (refl, refl, (refl, refl, (refl, refl, (refl, refl, (refl, refl, (refl, refl, (refl, refl, (refl, refl, (refl, refl, (refl, refl, (refl, refl, (refl, refl, (refl, refl, (refl, refl, (refl, refl, (refl, refl, (refl, refl, (refl, refl, tt))))))))))))))))))

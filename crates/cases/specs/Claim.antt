@@ -55,8 +55,8 @@ openingOf (free h w r d) =
 openingOf (priority h w r d) =
     let o : PriorityOpened = openPriority h w (rateArray r) (length r) (delayArray d) (length d) in
     keptPriority nothing (o .number) (o .manager)
-openingOf (polynomial w c z d) =
-    let o : PolynomialOpened = openPolynomial w (record { coefficients = c; offset = record { 0 = z } }) (delayArray d) (length d) in
+openingOf (polynomial h w c z d) =
+    let o : PolynomialOpened = openPolynomial h w (record { coefficients = c; offset = record { 0 = z } }) (delayArray d) (length d) in
     keptPolynomial nothing (o .number) (o .manager)
 openingOf (queue w r d n f b) =
     let o : QueueOpened = openQueue w (record { 0 = r }) (record { 0 = d }) n f (padded classesMax (record { 0 = 0 }) b) in

@@ -1,5 +1,5 @@
 -- 01, "Proved cases": the eleven cases, in 01's words above each row. Every row opens fresh, with A's figures where no others are given.
--- Below them cases that 02 asks again: R-5, under edition 2.
+-- Below them cases that 02 asks again: R-5, under edition 2; R-6, in mode 2.
 use mathlib.Core.Bool.{true, false}
 use mathlib.Core.List.{List, [], _∷_}
 use lib.IntN.{pos}
@@ -8,8 +8,9 @@ use Rattle.units.specs.Answer.{interval}
 use Rattle.segmentation.specs.declared.RateSegment.{RateSegment}
 use Rattle.segmentation.specs.declared.DelaySegment.{DelaySegment}
 use Rattle.contact.specs.Choices.{ported}
+use Rattle.poly_seg.specs.Choices.{ported as portedPolynomial}
 use Rattle.cases.specs.Words.{Case, free, priority, polynomial, queue, dryRun, book, list, done, _⇒_}
-use Rattle.cases.specs.Words.{case, edition, rate, delay, flags, dates, sends, refusal, lists, queued, row, unbooked}
+use Rattle.cases.specs.Words.{case, edition, mode, rate, delay, flags, dates, sends, refusal, lists, queued, row, unbooked}
 
 -- contact A: [0,10), rate 10, delay 3
 abbrev pub A : Interval
@@ -86,12 +87,12 @@ table =
     ∷ dryRun 0 100 0 ⇒ refusal 7
     ∷ [])
     -- 10. Coefficients 10,0,0,0, offset 0, window [0,10): at 3, size 15 or 20: send 3,5.
-    ∷ case 10 (polynomial (interval 0 10) (pos 10 ∷ pos 0 ∷ pos 0 ∷ pos 0 ∷ []) 0 A-delays)
+    ∷ case 10 (polynomial portedPolynomial (interval 0 10) (pos 10 ∷ pos 0 ∷ pos 0 ∷ pos 0 ∷ []) 0 A-delays)
     (dryRun 3 15 0 ⇒ sends 3 5 6 8
     ∷ dryRun 3 20 0 ⇒ sends 3 5 6 8
     ∷ [])
     -- 10. With 0,1,0,0: size 1 gives 7.
-    ∷ case 10 (polynomial (interval 0 10) (pos 0 ∷ pos 1 ∷ pos 0 ∷ pos 0 ∷ []) 0 A-delays)
+    ∷ case 10 (polynomial portedPolynomial (interval 0 10) (pos 0 ∷ pos 1 ∷ pos 0 ∷ pos 0 ∷ []) 0 A-delays)
     (dryRun 3 1 0 ⇒ refusal 7
     ∷ [])
     -- 11. Queue, 3 classes, rate 10, delay 2, [0,10), unbudgeted, both flags: size 25, priority 1, at 0: send 0,2, receive 2,4; booked
@@ -122,5 +123,18 @@ table =
     (dryRun 5 9 0 ⇒ sends 5 6 8 9
     ∷ book 5 9 0 (dates 5 6 8 9) ⇒ done 0
     ∷ list ⇒ lists (unbooked 0 5 ∷ row 5 6 0 ∷ unbooked 6 10 ∷ [])
+    ∷ [])
+    -- 02, R-6, mode 2. Case 10's last line, 0,1,0,0, asked at 0: size 1: send 0,2. The whole pass carries 50: send 0,10; 51: 7.
+    ∷ case 10 (polynomial (mode 2) (interval 0 10) (pos 0 ∷ pos 1 ∷ pos 0 ∷ pos 0 ∷ []) 0 A-delays)
+    (dryRun 0 50 0 ⇒ sends 0 10 3 13
+    ∷ dryRun 0 51 0 ⇒ refusal 7
+    ∷ dryRun 0 1 0 ⇒ sends 0 2 3 5
+    ∷ book 0 1 0 (dates 0 2 3 5) ⇒ done 0
+    ∷ list ⇒ lists (row 2 10 0 ∷ [])
+    ∷ [])
+    -- Case 10's first line is the same: 10,0,0,0, at 3, size 15 or 20: send 3,5.
+    ∷ case 10 (polynomial (mode 2) (interval 0 10) (pos 10 ∷ pos 0 ∷ pos 0 ∷ pos 0 ∷ []) 0 A-delays)
+    (dryRun 3 20 0 ⇒ sends 3 5 6 8
+    ∷ dryRun 3 15 0 ⇒ sends 3 5 6 8
     ∷ [])
     ∷ []

@@ -3,7 +3,9 @@ use crate::out;
 use crate::over;
 use contact::Contact;
 use free_list::FreeList;
+use poly::Mode;
 use poly::Polynome;
+use poly_seg::Choices;
 use poly_seg::PolySeg;
 use segmentation::DelaySegment;
 use segmentation::VolumeSegment;
@@ -60,7 +62,7 @@ fn fresh() -> PolySeg {
         coefficients: [10, 0, 0, 0],
         offset: Date(0),
     };
-    let opened = PolySeg::open(window, polynome, delays, 1);
+    let opened = PolySeg::open(Choices::ported(), window, polynome, delays, 1);
     opened.manager
 }
 
@@ -133,6 +135,14 @@ fn delays(r: PolySeg, s: DelaySegment, t: DelaySegment, count: usize) -> PolySeg
     other
 }
 
+// The record with another mode.
+fn named(r: PolySeg, mode: u64) -> PolySeg {
+    let made = Choices { mode: Mode(mode) };
+    let mut other = r;
+    other.choices = made;
+    other
+}
+
 fn valid(r: PolySeg) {
     let zero = segment(0, 0, 0);
     let none = delay(0, 0, 0);
@@ -187,8 +197,26 @@ fn broken_rules(r: PolySeg) {
     report(88, listing(r, segment(0, 10, 0), segment(0, 0, 1), 1));
 }
 
+fn modes(r: PolySeg) {
+    let exact = named(r, Mode::EXACT);
+    // valid: mode 2, which offers the same of this polynomial; the highest first and last coefficient of its range rule
+    report(108, exact);
+    report(109, polynome(exact, over::EXACT_WITHIN_TEN, 0));
+    report(110, cubic(exact, over::EXACT_LAST_WITHIN_TEN));
+    // one too high in mode 2, and what only mode 1 takes
+    report(49, polynome(exact, over::EXACT_OF_TEN, 0));
+    report(50, cubic(exact, over::EXACT_LAST_OF_TEN));
+    report(51, polynome(exact, over::FIRST_WITHIN_TEN, 0));
+    // modes: none, one too many, 255, the largest
+    report(52, named(r, 0));
+    report(53, named(r, over::MODE));
+    report(54, named(r, 255));
+    report(55, named(r, 18_446_744_073_709_551_615));
+}
+
 pub fn run() {
     let r = fresh();
     valid(r);
     broken_rules(r);
+    modes(r);
 }

@@ -46,7 +46,7 @@ module _ (line : List ℕ) where
 
   pub polynomial-opened : polynomialOpened (polynomialOf line) .number ≡ 0 → polynomialOk (polynomialOpened (polynomialOf line) .manager) ≡ true
   unfolding polynomialOpened polynomialOf
-  polynomial-opened z = polynomial-keeps _ _ _ _ (delays-size line _ _) z
+  polynomial-opened z = polynomial-keeps _ _ _ _ _ (delays-size line _ _) z
 
   pub queue-opened : queueOpened (queueOf line) .number ≡ 0 → queueOk (queueOpened (queueOf line) .manager) ≡ true
   unfolding queueOpened queueOf

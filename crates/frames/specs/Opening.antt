@@ -3,6 +3,7 @@ use Prim.Native.Nat.{ℕ}
 use mathlib.Core.List.{List}
 use Rattle.units.specs.Logic.{unless}
 use Rattle.contact.specs.Choices.{ported}
+use Rattle.poly_seg.specs.Choices.{ported as portedPolynomial}
 use Rattle.seg.specs.declared.Opened.{Opened as FreeOpened}
 use Rattle.seg.specs.Open.{openOf as openFree}
 use Rattle.pseg.specs.declared.Opened.{Opened as PriorityOpened}
@@ -48,7 +49,7 @@ priorityFrame line h =
 
 -- the polynomial opening with the frame's figures
 unfoldable pub polynomialOpened : PolynomialOpening → PolynomialOpened
-polynomialOpened f = openPolynomial (f .window) (f .polynome) (f .delays) (f .«delay_count»)
+polynomialOpened f = openPolynomial portedPolynomial (f .window) (f .polynome) (f .delays) (f .«delay_count»)
 
 -- 03, likewise
 unfoldable pub polynomialFrame : List ℕ → Held → Done

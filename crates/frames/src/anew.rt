@@ -48,7 +48,8 @@ pub fn polynomial(line: &[u8]) -> poly_seg::Opened
     let polynome = f.polynome;
     let delays = f.delays;
     let delay_count = f.delay_count;
-    PolySeg::open(window, polynome, delays, delay_count)
+    let choices = poly_seg::Choices::ported();
+    PolySeg::open(choices, window, polynome, delays, delay_count)
 }
 
 pub fn queue(line: &[u8]) -> legacy::Opened

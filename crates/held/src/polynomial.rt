@@ -4,7 +4,9 @@ use crate::Held;
 use crate::Kind;
 use contact::Contact;
 use free_list::FreeList;
+use poly::Mode;
 use poly::Polynome;
+use poly_seg::Choices;
 use poly_seg::PolySeg;
 use units::Date;
 ghost use mathlib.Core.Path.{_≡_};
@@ -20,6 +22,7 @@ pub fn empty() -> PolySeg
     let delays = contact.delays;
     let free = FreeList::nothing();
     PolySeg {
+        choices: Choices { mode: Mode(0) },
         window: window,
         polynome: Polynome {
             coefficients: [0i64; Polynome::COEFFICIENTS],

@@ -15,11 +15,19 @@ use Rattle.free_list.specs.declared.Found.{Found}
 use Rattle.free_list.specs.declared.Found.the-variants.{At}
 use Rattle.free_list.specs.Listed.{listOk}
 use Rattle.free_list.specs.Cut.{listed}
-use Rattle.poly.specs.Granted.{Ranged}
+use Rattle.poly.specs.declared.Polynome.{Polynome}
+use Rattle.poly.specs.Poly.{capacityTo}
+use Rattle.poly.specs.Search.{wantedOf}
+use Rattle.poly.specs.Granted.{termsOf, Ranged}
 use Rattle.poly_seg.specs.declared.PolySeg.{PolySeg}
 use Rattle.poly_seg.specs.Record.{delayList, recordOk}
-use Rattle.poly_seg.specs.DryRun.{dryRunOf, foundOf, answerTo}
+use Rattle.poly_seg.specs.DryRun.{offerOf, dryRunOf, foundOf, answerTo}
 use Rattle.poly_seg.proofs.Facts.{Facts, facts, found-dates}
+
+-- the search over a mode and a polynomial that are the record's is the record's
+pub search-of : (r : PolySeg) (mode : ℕ) (p : Polynome) → mode ≡ r .choices .mode .0 → p ≡ r .polynome → (t v : ℕ)
+    → offerOf (capacityTo mode p) (listed (r .free)) t (wantedOf mode v) ≡ foundOf r t v
+search-of r mode p m e t v = rw (m, e)
 
 module _ (r : PolySeg) (at : Date) (b : Bundle) (ok : recordOk r ≡ true) where
   pub dry-bundle : bundleOk at b ≡ false → dryRunOf r at b ≡ refused 2
@@ -37,7 +45,7 @@ module _ (r : PolySeg) (at : Date) (b : Bundle) (ok : recordOk r ≡ true) where
     abbrev carried : Load b
     carried = load b (asked-load at b fits)
 
-    pub search-asks : (r .free .count ≤ listedMax) × (Ranged (r .polynome) (r .window)
+    pub search-asks : (r .free .count ≤ listedMax) × (Ranged (termsOf (r .choices .mode .0) (r .polynome)) (r .window)
         × ((listOk [] (r .window .start .0) (r .window .end .0) (listed (r .free)) ≡ true) × (b .size .0 ≤ volumeMax)))
     search-asks = (kept .few, (kept .range, (kept .rules, carried .size)))
 

@@ -11,8 +11,8 @@ use Rattle.units.proofs.Offer as Offer
 use Rattle.units.proofs.Offer.Laws as Offer′
 use Rattle.howrekano.proofs.Opening as Opening
 use Rattle.howrekano.proofs.Opening.Laws as Opening′
-use Rattle.layout.proofs.polynomial.PolynomialOpening as PolynomialOpening
-use Rattle.layout.proofs.polynomial.PolynomialOpening.Laws as PolynomialOpening′
+use Rattle.howrekano.proofs.polynomial.PolynomialOpening as PolynomialOpening
+use Rattle.howrekano.proofs.polynomial.PolynomialOpening.Laws as PolynomialOpening′
 use Rattle.layout.proofs.queue.QueueOpening as QueueOpening
 use Rattle.layout.proofs.queue.QueueOpening.Laws as QueueOpening′
 use Rattle.seg.proofs.FreeVolume as FreeVolume

@@ -124,7 +124,6 @@ module _ (κs : Lfts 4) where
   pub priority-dry-run-kept-unique : (a : Dens κs priority-dry-run-kept-kinds.ps) → Determined (priority-dry-run-kept-reads.Post κs a)
   priority-dry-run-kept-unique a r q x y f g = f ∙ sym g
 
-module _ (κs : Lfts 3) where
   pub polynomial-dry-run-kept-unique : (a : Dens κs polynomial-dry-run-kept-kinds.ps) → Determined (polynomial-dry-run-kept-reads.Post κs a)
   polynomial-dry-run-kept-unique a r q x y f g = f ∙ sym g
 
@@ -191,9 +190,9 @@ module _ (κs : Lfts 6) (a : Dens κs priority-book-kept-kinds.ps) where
   pub priority-book-kept-left-unique : (k : ℕ) → AllLeft priority-left priority-numbers priority-count (priority-book-kept-reads.Post κs a k)
   priority-book-kept-left-unique k = all-left priority-left priority-numbers priority-count _ bookingsIn (λ l k. same-bookings l k listedMax) (λ m. m .bookings .segments) (λ m. m .bookings .count) (λ x. refl) (λ x. refl) _ (λ x p. p .1)
 
-module _ (κs : Lfts 5) (a : Dens κs polynomial-book-kept-kinds.ps) where
+module _ (κs : Lfts 6) (a : Dens κs polynomial-book-kept-kinds.ps) where
   abbrev PolynomialExit : Type 0
-  PolynomialExit = AtExit (endedOf 5 polynomial-book-kept-kinds.ps polynomial-book-kept-kinds.r) κs
+  PolynomialExit = AtExit (endedOf 6 polynomial-book-kept-kinds.ps polynomial-book-kept-kinds.r) κs
 
   abbrev polynomial-numbers : PolynomialExit → List ℕ
   polynomial-numbers s = s .1 .1 .1 .1 .1 .0 .now
@@ -202,7 +201,7 @@ module _ (κs : Lfts 5) (a : Dens κs polynomial-book-kept-kinds.ps) where
   polynomial-count s = s .1 .1 .1 .1 .1 .1 .0 .now
 
   abbrev polynomial-left : PolynomialExit → PolySeg
-  polynomial-left s = polySegIn (a .0) (polynomeIn (a .1 .0 .now) (a .1 .1 .0)) (a .1 .1 .1 .0 .now) (a .1 .1 .1 .1 .0) (polynomial-numbers s) (polynomial-count s)
+  polynomial-left s = polySegIn (a .1 .1 .1 .1 .1 .1 .1 .1 .1 .1 .0 .now) (a .0) (polynomeIn (a .1 .0 .now) (a .1 .1 .0)) (a .1 .1 .1 .0 .now) (a .1 .1 .1 .1 .0) (polynomial-numbers s) (polynomial-count s)
 
   pub polynomial-book-kept-unique : Determined (polynomial-book-kept-reads.Post κs a)
   polynomial-book-kept-unique r q x y f g = f .0 ∙ sym (g .0)
@@ -270,7 +269,7 @@ module _ {M : Type 1} (𝓤 : URA M) (H : Heap 𝓤) (A : Atoms 𝓤) (mem : Mem
 
   module _ (m : RefT (Of poly-seg)) where
     module _ (κs : Lfts 1) where
-      pub polynomial-open-says : (x : RefT (Of polynomial-opening)) (r : Of polynomial-opened) (e : AtExit polynomial-open.ended κs) → polynomial-open.clauses 𝓤 H A mem run κs (x, tt) .ensures tt r e ≡ fact 𝓤 (Answered (polynomialOpenOf (x .now .window) (x .now .polynome) (x .now .delays) (x .now .«delay_count»)) r)
+      pub polynomial-open-says : (x : RefT (Of polynomial-opening)) (r : Of polynomial-opened) (e : AtExit polynomial-open.ended κs) → polynomial-open.clauses 𝓤 H A mem run κs (x, tt) .ensures tt r e ≡ fact 𝓤 (Answered (polynomialOpenOf (x .now .choices) (x .now .window) (x .now .polynome) (x .now .delays) (x .now .«delay_count»)) r)
       polynomial-open-says x r e = refl
 
       pub polynomial-ok-says : (r : Bool) (e : AtExit polynomial-ok.ended κs) → polynomial-ok.clauses 𝓤 H A mem run κs (m, tt) .ensures tt r e ≡ fact 𝓤 (Answered (polynomialOk (m .now)) r)

@@ -16,6 +16,7 @@ use Rattle.pseg.specs.declared.PrioritySeg.{PrioritySeg}
 use Rattle.poly_seg.specs.declared.PolySeg.{PolySeg}
 use Rattle.words.specs.Words.{choicesIn, volumesIn, delaysIn}
 use Rattle.free_words.specs.Words.{freeIn}
+use Rattle.poly_words.specs.Words.{choicesIn as polynomialChoicesIn}
 use Rattle.booking_words.specs.Words.{listIn}
 
 -- the choices, the window, and the rates and delays that the numbers are, with how many of each are used
@@ -37,10 +38,10 @@ prioritySegIn h w rates m delays k bookings n =
 abbrev pub polynomeIn : List ℤ → Date → Polynome
 polynomeIn coefficients offset = record { coefficients = coefficients; offset = offset }
 
--- Polynomial: window, polynomial, delays and free list
-abbrev pub polySegIn : Interval → Polynome → List ℕ → ℕ → List ℕ → ℕ → PolySeg
-polySegIn w p delays k free n =
-    record { window = w; polynome = p; delays = delaysIn delays; «delay_count» = k; free = freeIn free n }
+-- Polynomial: choices, window, polynomial, delays and free list
+abbrev pub polySegIn : List ℕ → Interval → Polynome → List ℕ → ℕ → List ℕ → ℕ → PolySeg
+polySegIn h w p delays k free n =
+    record { choices = polynomialChoicesIn h; window = w; polynome = p; delays = delaysIn delays; «delay_count» = k; free = freeIn free n }
 
 -- send start, send end, receive start, receive end
 abbrev pub datesIn : List ℕ → TxData

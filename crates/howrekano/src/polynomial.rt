@@ -1,9 +1,11 @@
 // The polynomial manager from C or Rust: its record is lent, and no enum crosses. The calls whose names end in _kept test nothing, since whoever holds the record keeps its rules, and have its lists lent as numbers.
 use free_list::Chosen;
 use free_list::Found;
-use layout::polynomial::PolynomialOpening;
 use poly::Polynome;
+use poly_seg::Choices;
 use poly_seg::PolySeg;
+use poly_words::CHOICES;
+use segmentation::DelaySegment;
 use segmentation::Edition;
 use units::Bundle;
 use units::Date;
@@ -23,20 +25,31 @@ ghost use Rattle.poly_seg.specs.List.{listOf};
 ghost use Rattle.poly_seg.specs.Granted.{chosenOf};
 ghost use Rattle.howrekano.specs.Words.{polynomeIn, polySegIn, datesIn};
 
+// An opening's choices and figures.
+#[repr(C)]
+pub struct PolynomialOpening {
+    pub choices: Choices,
+    pub window: Interval,
+    pub polynome: Polynome,
+    pub delays: [DelaySegment; DelaySegment::COUNT_MAX],
+    pub delay_count: usize,
+}
+
 // The opening by value, with its figures in one record.
 pub fn opened(x: PolynomialOpening) -> poly_seg::Opened
-    ensures { λ r. ⌜ r ≡ openOf (x .window) (x .polynome) (x .delays) (x .«delay_count») ⌝ }
+    ensures { λ r. ⌜ r ≡ openOf (x .choices) (x .window) (x .polynome) (x .delays) (x .«delay_count») ⌝ }
 {
+    let choices = x.choices;
     let window = x.window;
     let polynome = x.polynome;
     let delays = x.delays;
     let delay_count = x.delay_count;
-    PolySeg::open(window, polynome, delays, delay_count)
+    PolySeg::open(choices, window, polynome, delays, delay_count)
 }
 
 #[no_mangle]
 pub extern "C" fn hk_polynomial_open(x: &PolynomialOpening) -> poly_seg::Opened
-    ensures { λ r. ⌜ r ≡ openOf (now (x .entry) .window) (now (x .entry) .polynome) (now (x .entry) .delays) (now (x .entry) .«delay_count») ⌝ }
+    ensures { λ r. ⌜ r ≡ openOf (now (x .entry) .choices) (now (x .entry) .window) (now (x .entry) .polynome) (now (x .entry) .delays) (now (x .entry) .«delay_count») ⌝ }
 {
     opened(*x)
 }
@@ -97,16 +110,26 @@ fn chosen(
     count: usize,
     at: Date,
     bundle: Bundle,
+    choices: &[u64; CHOICES],
 ) -> Chosen
-    requires { ⌜ recordOk (polySegIn window polynome (now delays) «delay_count» (now free) count) ≡ true ⌝ }
-    ensures { λ r. ⌜ r ≡ chosenOf (polySegIn window polynome (now (delays .entry)) «delay_count» (now (free .entry)) count) at bundle ⌝ }
+    requires { ⌜ recordOk (polySegIn (now choices) window polynome (now delays) «delay_count» (now free) count) ≡ true ⌝ }
+    ensures { λ r. ⌜ r ≡ chosenOf (polySegIn (now (choices .entry)) window polynome (now (delays .entry)) «delay_count» (now (free .entry)) count) at bundle ⌝ }
 {
     if !bundle.ok_at(at) {
         return Chosen::refused(units::refusal::BUNDLE);
     }
     let size = bundle.size;
-    let Found::At { place, send } = poly_words::find_offer(window, polynome, free, count, at, size)
-    else {
+    let named = poly_words::choices_at(choices);
+    let mode = named.mode;
+    let Found::At { place, send } = poly_words::find_offer(
+        mode,
+        window,
+        polynome,
+        free,
+        count,
+        at,
+        size,
+    ) else {
         return Chosen::refused(units::refusal::NO_OFFER);
     };
     let offer = words::answer_at(delays, delay_count, send);
@@ -127,16 +150,20 @@ pub extern "C" fn hk_polynomial_dry_run_kept(
     count: usize,
     at: Date,
     bundle: Bundle,
+    choices: &[u64; CHOICES],
 ) -> Offer
-    requires { ⌜ recordOk (polySegIn window (polynomeIn (now coefficients) offset) (now delays) «delay_count» (now free) count) ≡ true ⌝ }
-    ensures { λ r. ⌜ r ≡ dryRunOf (polySegIn window (polynomeIn (now (coefficients .entry)) offset) (now (delays .entry)) «delay_count» (now (free .entry)) count) at bundle ⌝ }
+    requires { ⌜ recordOk (polySegIn (now choices) window (polynomeIn (now coefficients) offset) (now delays) «delay_count» (now free) count) ≡ true ⌝ }
+    ensures { λ r. ⌜ r ≡ dryRunOf (polySegIn (now (choices .entry)) window (polynomeIn (now (coefficients .entry)) offset) (now (delays .entry)) «delay_count» (now (free .entry)) count) at bundle ⌝ }
 {
     let polynome = polynome_at(coefficients, offset);
     if !bundle.ok_at(at) {
         return Offer::refused(units::refusal::BUNDLE);
     }
     let size = bundle.size;
+    let named = poly_words::choices_at(choices);
+    let mode = named.mode;
     let Found::At { place: _, send } = poly_words::find_offer(
+        mode,
         window,
         polynome,
         free,
@@ -162,14 +189,25 @@ pub extern "C" fn hk_polynomial_book_kept(
     at: Date,
     bundle: Bundle,
     dates: &[u64; 4],
+    choices: &[u64; CHOICES],
 ) -> u8
-    requires { ⌜ recordOk (polySegIn window (polynomeIn (now coefficients) offset) (now delays) «delay_count» (now free) (now count)) ≡ true ⌝ }
-    ensures { λ r. ⌜ r ≡ bookOf (polySegIn window (polynomeIn (now (coefficients .entry)) offset) (now (delays .entry)) «delay_count» (now (free .entry)) (now (count .entry))) at bundle (datesIn (now (dates .entry))) .number ⌝ ∗ ⌜ polySegIn window (polynomeIn (now (coefficients .entry)) offset) (now (delays .entry)) «delay_count» (now (free .exit)) (now (count .exit)) ≡ bookOf (polySegIn window (polynomeIn (now (coefficients .entry)) offset) (now (delays .entry)) «delay_count» (now (free .entry)) (now (count .entry))) at bundle (datesIn (now (dates .entry))) .manager ⌝ }
+    requires { ⌜ recordOk (polySegIn (now choices) window (polynomeIn (now coefficients) offset) (now delays) «delay_count» (now free) (now count)) ≡ true ⌝ }
+    ensures { λ r. ⌜ r ≡ bookOf (polySegIn (now (choices .entry)) window (polynomeIn (now (coefficients .entry)) offset) (now (delays .entry)) «delay_count» (now (free .entry)) (now (count .entry))) at bundle (datesIn (now (dates .entry))) .number ⌝ ∗ ⌜ polySegIn (now (choices .entry)) window (polynomeIn (now (coefficients .entry)) offset) (now (delays .entry)) «delay_count» (now (free .exit)) (now (count .exit)) ≡ bookOf (polySegIn (now (choices .entry)) window (polynomeIn (now (coefficients .entry)) offset) (now (delays .entry)) «delay_count» (now (free .entry)) (now (count .entry))) at bundle (datesIn (now (dates .entry))) .manager ⌝ }
 {
     let n = *count;
     let stated = crate::dates_at(dates);
     let polynome = polynome_at(coefficients, offset);
-    let c = chosen(window, polynome, delays, delay_count, free, n, at, bundle);
+    let c = chosen(
+        window,
+        polynome,
+        delays,
+        delay_count,
+        free,
+        n,
+        at,
+        bundle,
+        choices,
+    );
     let offer = c.offer;
     let place = c.place;
     let number = offer.refusal(stated);

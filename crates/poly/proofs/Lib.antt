@@ -1,6 +1,10 @@
 pub mod Abs
 pub mod Back
 pub mod Steps
+pub mod Ring
+pub mod Letters
+pub mod Sides
+pub mod Modes
 pub mod Turned
 pub mod Capped
 pub mod Range
@@ -10,5 +14,8 @@ pub mod Order
 pub mod Crossing
 pub mod Ends
 pub mod EndLaws
+pub mod Slope
+pub mod Simpson
+pub mod ExactLaws
 pub mod Unique
 pub mod Cases

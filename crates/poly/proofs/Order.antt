@@ -1,4 +1,4 @@
--- Laws of the integers' order as a test: it is transitive, antisymmetric, and a difference from a common number keeps it.
+-- Laws of the integers' order as a test: it is transitive, antisymmetric, asymmetric, and a difference from a common number keeps it.
 use Prim.Native.Nat.{ℕ, zero, suc, _+_}
 use mathlib.Core.Bool.{Bool, true, false, cond}
 use mathlib.Core.Path.{_≡_, refl, sym, ap, _∙_}
@@ -24,6 +24,12 @@ less-trans (negsuc a) b (pos c) h k = refl
 less-trans (negsuc a) (pos b) (negsuc c) h k = absurd (no-both k refl)
 less-trans (negsuc a) (negsuc b) (negsuc c) h k = lt-ltb c a (omega (arith, ltb-false a b h, ltb-true c b k))
 
+pub less-asym : (a b : ℤ) → ltZ a b ≡ true → ltZ b a ≡ false
+less-asym (pos a) (pos b) h = le-ltb b a (omega (arith, ltb-true a b h))
+less-asym (pos a) (negsuc b) h = absurd (no-both h refl)
+less-asym (negsuc a) (pos b) h = refl
+less-asym (negsuc a) (negsuc b) h = le-ltb a b (omega (arith, ltb-true b a h))
+
 less-cond : (b : Bool) (m n : ℕ) → ltZ (cond b (negsuc m) (pos n)) (pos 0) ≡ b
 less-cond true m n = refl
 less-cond false m n = le-ltb n 0 (omega arith)
@@ -37,7 +43,7 @@ less-zero (negsuc a) (pos zero) = less-cond (ltb 0 (suc a)) _ _ ∙ lt-ltb 0 (su
 less-zero (negsuc a) (pos (suc b)) = refl
 less-zero (negsuc a) (negsuc b) = less-cond (ltb (suc b) (suc a)) _ _ ∙ leb·suc-suc (suc b) a
 
-same-apart : (a b k : ℤ) → (a -ℤ k) -ℤ (b -ℤ k) ≡ a -ℤ b
+pub same-apart : (a b k : ℤ) → (a -ℤ k) -ℤ (b -ℤ k) ≡ a -ℤ b
 same-apart a b k =
     rw (negℤ-+ℤ b (negℤ k), negℤ-negℤ k, +ℤ-comm (negℤ b) k, ← +ℤ-assoc (a -ℤ k) k (negℤ b), -ℤ-+ℤ-cancel a k)
 

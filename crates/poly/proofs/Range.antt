@@ -11,10 +11,10 @@ use Rattle.units.proofs.Logic.{both-fst, both-snd, both-yes}
 use Rattle.units.proofs.Windows.{window}
 use Rattle.poly.specs.declared.Polynome.{Polynome}
 use Rattle.poly.specs.Poly.{rangeOk, farOf, polyOk}
-use Rattle.poly.specs.Granted.{InRange, Ranged}
+use Rattle.poly.specs.Granted.{termsOf, InRange, Ranged}
 
-module _ (c0 c1 c2 c3 : ℤ) (m : ℕ) where
-  pub in-range : rangeOk c0 c1 c2 c3 m ≡ true → InRange c0 c1 c2 c3 m
+module _ (t0 t1 t2 t3 : ℤ) (m : ℕ) where
+  pub in-range : rangeOk t0 t1 t2 t3 m ≡ true → InRange t0 t1 t2 t3 m
   unfolding rangeOk
   in-range e =
       let e2 = both-snd _ _ e in
@@ -28,7 +28,7 @@ module _ (c0 c1 c2 c3 : ℤ) (m : ℕ) where
         last = leb-true _ _ (both-snd _ _ e0);
       }
 
-  pub range-ok : InRange c0 c1 c2 c3 m → rangeOk c0 c1 c2 c3 m ≡ true
+  pub range-ok : InRange t0 t1 t2 t3 m → rangeOk t0 t1 t2 t3 m ≡ true
   unfolding rangeOk
   range-ok h =
       both-yes _ _ (le-leb _ _ (h .r3))
@@ -36,9 +36,9 @@ module _ (c0 c1 c2 c3 : ℤ) (m : ℕ) where
       (both-yes _ _ (le-leb _ _ (h .r1)) (both-yes _ _ (le-leb _ _ (h .r0)) (le-leb _ _ (h .last)))))
 
 -- what `Polynome::ok` tells of a window
-pub ranged : (p : Polynome) (w : Interval) → windowOk w ≡ true → polyOk p w ≡ true → Ranged p w
+pub ranged : (mode : ℕ) (p : Polynome) (w : Interval) → windowOk w ≡ true → polyOk mode p w ≡ true → Ranged (termsOf mode p) w
 unfolding polyOk
-ranged p w k e =
+ranged mode p w k e =
     record {
       far = farOf p w;
       date = window w k .date;

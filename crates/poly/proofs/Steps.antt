@@ -3,7 +3,6 @@ use Prim.Native.Nat.{ℕ, _≤_}
 use native.Mathlib.Nat.{le-trans, le-refl, mul-le-mul}
 use native.Mathlib.Omega.{arith}
 use lib.IntN.{ℤ, pos, natAbs, _*ℤ_}
-use lib.Signed.{quotZ}
 use mir.Syntax.{w64}
 use mir.Val.{SFits}
 use Rattle.poly.specs.Poly.{stepMax, stepOf, magOf, hornerOf}
@@ -11,105 +10,119 @@ use Rattle.poly.specs.Granted.{InRange}
 use Rattle.poly.proofs.Abs.{abs-mul, abs-add, sfits}
 
 -- the result of a step is bounded by the step on magnitudes
-pub abs-step : (v d c : ℤ) (k : ℕ) → natAbs (stepOf v d c k) ≤ magOf (natAbs v) (natAbs d) c k
+pub abs-step : (v d t : ℤ) → natAbs (stepOf v d t) ≤ magOf (natAbs v) (natAbs d) t
 unfolding stepOf magOf
-abs-step v d c k = omega (arith, abs-add (v *ℤ d) (quotZ c (pos k)), abs-mul v d)
+abs-step v d t = omega (arith, abs-add (v *ℤ d) t, abs-mul v d)
 
 -- a step on magnitudes grows with the value and the distance
-pub mag-mono : {v v′ m m′ : ℕ} (c : ℤ) (k : ℕ) → v ≤ v′ → m ≤ m′ → magOf v m c k ≤ magOf v′ m′ c k
+pub mag-mono : {v v′ m m′ : ℕ} (t : ℤ) → v ≤ v′ → m ≤ m′ → magOf v m t ≤ magOf v′ m′ t
 unfolding magOf
-mag-mono c k hv hm = omega (arith, mul-le-mul hv hm)
+mag-mono t hv hm = omega (arith, mul-le-mul hv hm)
 
 -- the parts of a step and the step fit
-module _ (v d c : ℤ) (k : ℕ) (h : magOf (natAbs v) (natAbs d) c k ≤ stepMax) where
+module _ (v d t : ℤ) (h : magOf (natAbs v) (natAbs d) t ≤ stepMax) where
   pub fits-product : SFits w64 (v *ℤ d)
   unfolding magOf
   fits-product = sfits _ (omega (arith, abs-mul v d))
 
-  pub fits-quotient : SFits w64 (quotZ c (pos k))
-  unfolding magOf
-  fits-quotient = sfits _ (omega arith)
+  pub fits-step : SFits w64 (stepOf v d t)
+  fits-step = sfits _ (omega (arith, abs-step v d t))
 
-  pub fits-step : SFits w64 (stepOf v d c k)
-  fits-step = sfits _ (omega (arith, abs-step v d c k))
-
--- the values after each step, from the highest coefficient down
+-- the values after each step, from the highest term down
 abbrev pub V3 : ℤ → ℤ → ℤ
-V3 c3 d = stepOf (pos 0) d c3 4
+V3 t3 d = stepOf (pos 0) d t3
 
 abbrev pub V2 : ℤ → ℤ → ℤ → ℤ
-V2 c2 c3 d = stepOf (V3 c3 d) d c2 3
+V2 t2 t3 d = stepOf (V3 t3 d) d t2
 
 abbrev pub V1 : ℤ → ℤ → ℤ → ℤ → ℤ
-V1 c1 c2 c3 d = stepOf (V2 c2 c3 d) d c1 2
+V1 t1 t2 t3 d = stepOf (V2 t2 t3 d) d t1
 
 abbrev pub V0 : ℤ → ℤ → ℤ → ℤ → ℤ → ℤ
-V0 c0 c1 c2 c3 d = stepOf (V1 c1 c2 c3 d) d c0 1
+V0 t0 t1 t2 t3 d = stepOf (V1 t1 t2 t3 d) d t0
 
 -- and the same on magnitudes
 abbrev pub M3 : ℤ → ℕ → ℕ
-M3 c3 m = magOf 0 m c3 4
+M3 t3 m = magOf 0 m t3
 
 abbrev pub M2 : ℤ → ℤ → ℕ → ℕ
-M2 c2 c3 m = magOf (M3 c3 m) m c2 3
+M2 t2 t3 m = magOf (M3 t3 m) m t2
 
 abbrev pub M1 : ℤ → ℤ → ℤ → ℕ → ℕ
-M1 c1 c2 c3 m = magOf (M2 c2 c3 m) m c1 2
+M1 t1 t2 t3 m = magOf (M2 t2 t3 m) m t1
 
 abbrev pub M0 : ℤ → ℤ → ℤ → ℤ → ℕ → ℕ
-M0 c0 c1 c2 c3 m = magOf (M1 c1 c2 c3 m) m c0 1
+M0 t0 t1 t2 t3 m = magOf (M1 t1 t2 t3 m) m t0
 
-module _ (c0 c1 c2 c3 d : ℤ) (h : InRange c0 c1 c2 c3 (natAbs d)) where
-  grows : (v : ℤ) (w : ℕ) (c : ℤ) (k : ℕ) → natAbs v ≤ w → magOf (natAbs v) (natAbs d) c k ≤ magOf w (natAbs d) c k
-  grows v w c k a = mag-mono c k a (le-refl _)
+module _ (t0 t1 t2 t3 d : ℤ) (h : InRange t0 t1 t2 t3 (natAbs d)) where
+  grows : (v : ℤ) (w : ℕ) (t : ℤ) → natAbs v ≤ w → magOf (natAbs v) (natAbs d) t ≤ magOf w (natAbs d) t
+  grows v w t a = mag-mono t a (le-refl _)
 
-  under : (v : ℤ) (w : ℕ) (c : ℤ) (k : ℕ) → natAbs v ≤ w → natAbs (stepOf v d c k) ≤ magOf w (natAbs d) c k
-  under v w c k a = le-trans (abs-step v d c k) (grows v w c k a)
+  under : (v : ℤ) (w : ℕ) (t : ℤ) → natAbs v ≤ w → natAbs (stepOf v d t) ≤ magOf w (natAbs d) t
+  under v w t a = le-trans (abs-step v d t) (grows v w t a)
 
-  a3 : natAbs (V3 c3 d) ≤ M3 c3 (natAbs d)
-  a3 = abs-step (pos 0) d c3 4
+  a3 : natAbs (V3 t3 d) ≤ M3 t3 (natAbs d)
+  a3 = abs-step (pos 0) d t3
 
-  a2 : natAbs (V2 c2 c3 d) ≤ M2 c2 c3 (natAbs d)
-  a2 = under (V3 c3 d) _ c2 3 a3
+  a2 : natAbs (V2 t2 t3 d) ≤ M2 t2 t3 (natAbs d)
+  a2 = under (V3 t3 d) _ t2 a3
 
-  a1 : natAbs (V1 c1 c2 c3 d) ≤ M1 c1 c2 c3 (natAbs d)
-  a1 = under (V2 c2 c3 d) _ c1 2 a2
+  a1 : natAbs (V1 t1 t2 t3 d) ≤ M1 t1 t2 t3 (natAbs d)
+  a1 = under (V2 t2 t3 d) _ t1 a2
 
-  a0 : natAbs (V0 c0 c1 c2 c3 d) ≤ M0 c0 c1 c2 c3 (natAbs d)
-  a0 = under (V1 c1 c2 c3 d) _ c0 1 a1
+  a0 : natAbs (V0 t0 t1 t2 t3 d) ≤ M0 t0 t1 t2 t3 (natAbs d)
+  a0 = under (V1 t1 t2 t3 d) _ t0 a1
 
   -- what each further step asks
-  pub asks2 : magOf (natAbs (V3 c3 d)) (natAbs d) c2 3 ≤ stepMax
-  asks2 = le-trans (grows (V3 c3 d) _ c2 3 a3) (h .r2)
+  pub asks2 : magOf (natAbs (V3 t3 d)) (natAbs d) t2 ≤ stepMax
+  asks2 = le-trans (grows (V3 t3 d) _ t2 a3) (h .r2)
 
-  pub asks1 : magOf (natAbs (V2 c2 c3 d)) (natAbs d) c1 2 ≤ stepMax
-  asks1 = le-trans (grows (V2 c2 c3 d) _ c1 2 a2) (h .r1)
+  pub asks1 : magOf (natAbs (V2 t2 t3 d)) (natAbs d) t1 ≤ stepMax
+  asks1 = le-trans (grows (V2 t2 t3 d) _ t1 a2) (h .r1)
 
-  pub asks0 : magOf (natAbs (V1 c1 c2 c3 d)) (natAbs d) c0 1 ≤ stepMax
-  asks0 = le-trans (grows (V1 c1 c2 c3 d) _ c0 1 a1) (h .r0)
+  pub asks0 : magOf (natAbs (V1 t1 t2 t3 d)) (natAbs d) t0 ≤ stepMax
+  asks0 = le-trans (grows (V1 t1 t2 t3 d) _ t0 a1) (h .r0)
 
-  pub horner-bound : natAbs (hornerOf c0 c1 c2 c3 d *ℤ d) ≤ stepMax
+  pub horner-bound : natAbs (hornerOf t0 t1 t2 t3 d *ℤ d) ≤ stepMax
   unfolding hornerOf
   horner-bound = rw abs-mul (le-trans (mul-le-mul a0 (le-refl (natAbs d))) (h .last))
 
-  pub horner-fits : SFits w64 (hornerOf c0 c1 c2 c3 d *ℤ d)
+  pub horner-fits : SFits w64 (hornerOf t0 t1 t2 t3 d *ℤ d)
   horner-fits = sfits _ (omega (arith, horner-bound))
 
+-- no term passes the limit
+module _ (t0 t1 t2 t3 : ℤ) (m : ℕ) (h : InRange t0 t1 t2 t3 m) where
+  pub small0 : natAbs t0 ≤ stepMax
+  unfolding magOf
+  small0 = omega (arith, h .r0)
+
+  pub small1 : natAbs t1 ≤ stepMax
+  unfolding magOf
+  small1 = omega (arith, h .r1)
+
+  pub small2 : natAbs t2 ≤ stepMax
+  unfolding magOf
+  small2 = omega (arith, h .r2)
+
+  pub small3 : natAbs t3 ≤ stepMax
+  unfolding magOf
+  small3 = omega (arith, h .r3)
+
 -- the range rule at a distance holds at each smaller one
-module _ (c0 c1 c2 c3 : ℤ) {m m′ : ℕ} (le : m ≤ m′) where
-  g3 : M3 c3 m ≤ M3 c3 m′
-  g3 = mag-mono c3 4 (le-refl 0) le
+module _ (t0 t1 t2 t3 : ℤ) {m m′ : ℕ} (le : m ≤ m′) where
+  g3 : M3 t3 m ≤ M3 t3 m′
+  g3 = mag-mono t3 (le-refl 0) le
 
-  g2 : M2 c2 c3 m ≤ M2 c2 c3 m′
-  g2 = mag-mono c2 3 g3 le
+  g2 : M2 t2 t3 m ≤ M2 t2 t3 m′
+  g2 = mag-mono t2 g3 le
 
-  g1 : M1 c1 c2 c3 m ≤ M1 c1 c2 c3 m′
-  g1 = mag-mono c1 2 g2 le
+  g1 : M1 t1 t2 t3 m ≤ M1 t1 t2 t3 m′
+  g1 = mag-mono t1 g2 le
 
-  g0 : M0 c0 c1 c2 c3 m ≤ M0 c0 c1 c2 c3 m′
-  g0 = mag-mono c0 1 g1 le
+  g0 : M0 t0 t1 t2 t3 m ≤ M0 t0 t1 t2 t3 m′
+  g0 = mag-mono t0 g1 le
 
-  pub range-mono : InRange c0 c1 c2 c3 m′ → InRange c0 c1 c2 c3 m
+  pub range-mono : InRange t0 t1 t2 t3 m′ → InRange t0 t1 t2 t3 m
   range-mono h = record {
     r3 = le-trans g3 (h .r3);
     r2 = le-trans g2 (h .r2);

@@ -6,10 +6,14 @@ use Rattle.units.specs.declared.Date.{Date}
 use Rattle.units.specs.declared.Interval.{Interval}
 use Rattle.units.specs.declared.Volume.{Volume}
 use Rattle.units.proofs.Determined.{Determined}
+use Rattle.poly.specs.declared.Mode.{Mode}
 use Rattle.poly.specs.declared.Polynome.{Polynome}
+use Rattle.poly.specs.declared.terms.Terms.{Terms}
 use Rattle.poly.proofs.Polynome.ok.Reads as ok-reads
-use Rattle.poly.proofs.Polynome.capacity.Reads as capacity-reads
-use Rattle.poly.proofs.Polynome.find_end.Reads as find-end-reads
+use Rattle.poly.proofs.Polynome.terms.Reads as terms-reads
+use Rattle.poly.proofs.Mode.wanted.Reads as wanted-reads
+use Rattle.poly.proofs.terms.Terms.capacity.Reads as capacity-reads
+use Rattle.poly.proofs.terms.Terms.find_end.Reads as find-end-reads
 use Rattle.poly.proofs.signed.mul.Reads as mul-reads
 use Rattle.poly.proofs.signed.add.Reads as add-reads
 use Rattle.poly.proofs.signed.sub.Reads as sub-reads
@@ -19,14 +23,21 @@ use Rattle.poly.proofs.signed.unsigned.Reads as unsigned-reads
 use Rattle.poly.proofs.signed.less.Reads as less-reads
 use Rattle.poly.proofs.signed.magnitude.Reads as magnitude-reads
 
-module _ (p : Polynome) (w : Interval) where
-  pub ok-unique : Determined (ok-reads.Post tt (p, (w, tt)))
+module _ (p : Polynome) (mode : Mode) (w : Interval) where
+  pub ok-unique : Determined (ok-reads.Post tt (p, (mode, (w, tt))))
   ok-unique r q x y f g = f ∙ sym g
 
-  pub capacity-unique : (at : Date) → Determined (capacity-reads.Post tt (p, (w, (at, tt))))
+  pub terms-unique : Determined (terms-reads.Post tt (p, (mode, (w, tt))))
+  terms-unique r q x y f g = f ∙ sym g
+
+pub wanted-unique : (mode : Mode) (size : Volume) → Determined (wanted-reads.Post tt (mode, (size, tt)))
+wanted-unique mode size r q x y f g = f ∙ sym g
+
+module _ (t : Terms) (w : Interval) where
+  pub capacity-unique : (at : Date) → Determined (capacity-reads.Post tt (t, (w, (at, tt))))
   capacity-unique at r q x y f g = f .0 ∙ sym (g .0)
 
-  pub find-end-unique : (segment : Interval) (at : Date) (size : Volume) → Determined (find-end-reads.Post tt (p, (w, (segment, (at, (size, tt))))))
+  pub find-end-unique : (segment : Interval) (at : Date) (size : ℕ) → Determined (find-end-reads.Post tt (t, (w, (segment, (at, (size, tt))))))
   find-end-unique segment at size r q x y f g = f ∙ sym g
 
 module _ (a b : ℤ) where

@@ -1,17 +1,20 @@
--- 01, "Managers", Polynomial: the end search, whose steps decide where the capacity falls.
-use Prim.Native.Nat.{ℕ, zero, suc, _+_, _-_, _/_}
+-- 01, "Managers", Polynomial: the end search, whose steps decide where the capacity falls; over any capacity to a date, so 02's R-6 keeps it.
+use Prim.Native.Nat.{ℕ, zero, suc, _+_, _-_, _*_, _/_}
 use lib.Dec.{leb, ltb}
 use lib.IntN.{ℤ, pos, _-ℤ_}
 use lib.Signed.{ltZ}
 use Rattle.units.specs.Logic.{both, pick, unless}
 use Rattle.segmentation.specs.declared.End.{End}
 use Rattle.segmentation.specs.declared.End.the-variants.{At, None}
-use Rattle.poly.specs.declared.Polynome.{Polynome}
-use Rattle.poly.specs.Poly.{capacityTo}
+use Rattle.poly.specs.Poly.{exact}
+
+-- 02, R-6: the size v as the mode counts it: in mode 2 twelve times the size
+unfoldable pub wantedOf : ℕ → ℕ → ℕ
+wantedOf mode v = pick (exact mode) (12 * v) v
 
 -- the capacity to y, less a known one
-unfoldable pub areaFrom : Polynome → ℤ → ℕ → ℤ
-areaFrom p known y = capacityTo p y -ℤ known
+unfoldable pub areaFrom : (ℕ → ℤ) → ℤ → ℕ → ℤ
+areaFrom cap known y = cap y -ℤ known
 
 -- low + (high - low) / 2, where high is top - 1
 abbrev pub middle : ℕ → ℕ → ℕ
@@ -27,8 +30,8 @@ halveOf (suc n) f t low top =
     (middle low top)))
 
 -- the end from x on in the free segment [a, b): none unless a <= x < b and the capacity from x to b suffices
-unfoldable pub findEnd : Polynome → ℕ → ℕ → ℕ → ℕ → End
-findEnd p a b x v =
+unfoldable pub findEnd : (ℕ → ℤ) → ℕ → ℕ → ℕ → ℕ → End
+findEnd cap a b x v =
     unless (both (leb a x) (ltb x b)) None
-    (pick (ltZ (areaFrom p (capacityTo p x) b) (pos v)) None
-    (At (record { 0 = halveOf (b + 1 - x) (areaFrom p (capacityTo p x)) (pos v) x (b + 1) })))
+    (pick (ltZ (areaFrom cap (cap x) b) (pos v)) None
+    (At (record { 0 = halveOf (b + 1 - x) (areaFrom cap (cap x)) (pos v) x (b + 1) })))

@@ -25,51 +25,58 @@ use Rattle.free_list.proofs.Offered.{AtPlace, place-get, listed-at, Here, Offer
 use Rattle.free_list.proofs.CutLaws.{offered-inside}
 use Rattle.free_list.proofs.CutList.{Kept, offered-inside-list}
 use Rattle.poly.specs.Poly.{polyOk}
-use Rattle.poly.specs.Granted.{Ranged}
+use Rattle.poly.specs.Granted.{termsOf, Ranged}
 use Rattle.poly.proofs.Range.{ranged}
 use Rattle.poly.proofs.EndLaws.{find-end-inside}
+use Rattle.poly.proofs.Modes.{wanted-some}
 use Rattle.poly_seg.specs.declared.PolySeg.{PolySeg}
+use Rattle.poly_seg.specs.Choices.{choicesOk}
 use Rattle.poly_seg.specs.Open.{delaysOk}
 use Rattle.poly_seg.specs.Record.{delayList, recordOk}
-use Rattle.poly_seg.specs.DryRun.{foundOf}
+use Rattle.poly_seg.specs.DryRun.{capacityOf, sizeOf, foundOf}
 use Rattle.poly_seg.proofs.Lookup.{delays-most, delays-short}
 use Rattle.poly_seg.proofs.NoRates.{bare-here}
 use Rattle.poly_seg.proofs.Picked.{Picked, offer-picked}
-use Rattle.poly_seg.proofs.Opening.{Passed, open-window, open-delays, open-polynome, open-passed, open-yes, open-not}
+use Rattle.poly_seg.proofs.Opening.{Passed, open-choices, open-window, open-delays, open-polynome, open-passed, open-yes, open-not}
 
 -- The record's test, test by test.
 module _ (r : PolySeg) where
   abbrev pub Opens : Type 0
-  Opens = Passed (r .window) (r .polynome) (r .delays) (r .«delay_count»)
+  Opens = Passed (r .choices) (r .window) (r .polynome) (r .delays) (r .«delay_count»)
 
-  pub record-window : windowOk (r .window) ≡ false → recordOk r ≡ false
+  pub record-choices : choicesOk (r .choices) ≡ false → recordOk r ≡ false
   unfolding recordOk
-  record-window e = both-stop _ _ (open-not _ _ _ _ 3 (open-window _ _ _ _ e) (λ z. omega arith))
+  record-choices e = both-stop _ _ (open-not _ _ _ _ _ 2 (open-choices _ _ _ _ _ e) (λ z. omega arith))
 
-  module _ (h1 : windowOk (r .window) ≡ true) where
-    pub record-delays : delaysOk (r .«delay_count») (r .delays) ≡ false → recordOk r ≡ false
+  module _ (h0 : choicesOk (r .choices) ≡ true) where
+    pub record-window : windowOk (r .window) ≡ false → recordOk r ≡ false
     unfolding recordOk
-    record-delays e = both-stop _ _ (open-not _ _ _ _ 5 (open-delays _ _ _ _ h1 e) (λ z. omega arith))
+    record-window e = both-stop _ _ (open-not _ _ _ _ _ 3 (open-window _ _ _ _ _ h0 e) (λ z. omega arith))
 
-    pub record-polynome : delaysOk (r .«delay_count») (r .delays) ≡ true → polyOk (r .polynome) (r .window) ≡ false → recordOk r ≡ false
-    unfolding recordOk
-    record-polynome h2 e = both-stop _ _ (open-not _ _ _ _ 11 (open-polynome _ _ _ _ h1 h2 e) (λ z. omega arith))
+    module _ (h1 : windowOk (r .window) ≡ true) where
+      pub record-delays : delaysOk (r .«delay_count») (r .delays) ≡ false → recordOk r ≡ false
+      unfolding recordOk
+      record-delays e = both-stop _ _ (open-not _ _ _ _ _ 5 (open-delays _ _ _ _ _ h0 h1 e) (λ z. omega arith))
+
+      pub record-polynome : delaysOk (r .«delay_count») (r .delays) ≡ true → polyOk (r .choices .mode .0) (r .polynome) (r .window) ≡ false → recordOk r ≡ false
+      unfolding recordOk
+      record-polynome h2 e = both-stop _ _ (open-not _ _ _ _ _ 11 (open-polynome _ _ _ _ _ h0 h1 h2 e) (λ z. omega arith))
 
   module _ (h : Opens) where
     pub record-delayed : allOf noDelay (drop (r .«delay_count») (r .delays)) ≡ false → recordOk r ≡ false
     unfolding recordOk
-    record-delayed e = both-go _ _ (open-yes _ _ _ _ h) ∙ both-stop _ _ e
+    record-delayed e = both-go _ _ (open-yes _ _ _ _ _ h) ∙ both-stop _ _ e
 
     pub record-listed : allOf noDelay (drop (r .«delay_count») (r .delays)) ≡ true
         → recordOk r ≡ counted listedMax (r .free .count)
         (both (listOk [] (r .window .start .0) (r .window .end .0) (listed (r .free))) (allOf noVolume (drop (r .free .count) (r .free .segments))))
     unfolding recordOk
-    record-listed e = both-go _ _ (open-yes _ _ _ _ h) ∙ both-go _ _ e
+    record-listed e = both-go _ _ (open-yes _ _ _ _ _ h) ∙ both-go _ _ e
 
 pub record Facts (r : PolySeg) : Type 0 where
   pub test : Opens r
   pub window : Window (r .window)
-  pub range : Ranged (r .polynome) (r .window)
+  pub range : Ranged (termsOf (r .choices .mode .0) (r .polynome)) (r .window)
   pub places : r .«delay_count» ≤ segmentsMax
   pub short : AllShort (delayList r)
   pub undelayed : allOf noDelay (drop (r .«delay_count») (r .delays)) ≡ true
@@ -82,14 +89,14 @@ pub record Facts (r : PolySeg) : Type 0 where
 pub facts : (r : PolySeg) → recordOk r ≡ true → Facts r
 unfolding recordOk
 facts r e =
-    let test = open-passed _ _ _ _ (eqb-true _ _ (both-fst _ _ e)) in
+    let test = open-passed _ _ _ _ _ (eqb-true _ _ (both-fst _ _ e)) in
     let rest = both-snd _ _ e in
     let list = both-snd _ _ rest in
     let holds = counted-holds listedMax (r .free .count) _ list in
     record {
       test = test;
       window = window _ (test .window);
-      range = ranged _ _ (test .window) (test .polynome);
+      range = ranged _ _ _ (test .window) (test .polynome);
       places = delays-most _ _ (test .delay);
       short = delays-short _ _ (test .delay);
       undelayed = both-fst _ _ rest;
@@ -105,7 +112,7 @@ pub record-kept : (r : PolySeg) → Opens r → allOf noDelay (drop (r .«delay_
     → Kept [] (r .window .start .0) (r .window .end .0) (r .free) → recordOk r ≡ true
 unfolding recordOk
 record-kept r h u k =
-    both-yes _ _ (open-yes _ _ _ _ h)
+    both-yes _ _ (open-yes _ _ _ _ _ h)
     (both-yes _ _ u
     (both-yes _ _ (le-leb _ _ (k .some)) (both-yes _ _ (le-leb _ _ (k .few)) (both-yes _ _ (k .rules) (k .unused)))))
 
@@ -134,11 +141,11 @@ record Sent (t : ℕ) (send : Interval) (g : VolumeSegment) : Type 0 where
 module _ (r : PolySeg) (q : Facts r) (t v : ℕ) (pos : 1 ≤ v) (i : ℕ) (send : Interval) (h : foundOf r t v ≡ At i send) where
   found-at : AtPlace (Sent t send) (listed (r .free)) i
   found-at =
-      listed-at (Picked (r .polynome) t v send) (Sent t send) [] _ _ (listed (r .free)) i
+      listed-at (Picked (capacityOf r) t (sizeOf r v) send) (Sent t send) [] _ _ (listed (r .free)) i
       (λ g a b k.
-      let e = find-end-inside (r .polynome) (g .start .0) (g .end .0) (send .start .0) v (send .end) pos (k .ends) in
+      let e = find-end-inside (capacityOf r) (g .start .0) (g .end .0) (send .start .0) (sizeOf r v) (send .end) (wanted-some _ v pos) (k .ends) in
       record { from = e .from; late = omega (arith, k .start); after = e .after; by = e .by })
-      (q .free) (offer-picked (r .polynome) t v send (listed (r .free)) i h)
+      (q .free) (offer-picked (capacityOf r) t (sizeOf r v) send (listed (r .free)) i h)
 
   -- the offer stands at a listed segment, as one of size 0 where there are no rates
   pub found-offered : Offered 1 [] 0 (listed (r .free)) i (send .start .0) (send .end .0) 0

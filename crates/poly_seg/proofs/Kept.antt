@@ -26,6 +26,7 @@ use Rattle.free_list.proofs.Offered.{offered-at}
 use Rattle.free_list.proofs.CutLaws.{cut-some, cut-listed}
 use Rattle.free_list.proofs.CutList.{kept-in, cut-number, cut-refused, cut-few, cut-list}
 use Rattle.poly.specs.declared.Polynome.{Polynome}
+use Rattle.poly_seg.specs.declared.Choices.{Choices}
 use Rattle.poly_seg.specs.declared.PolySeg.{PolySeg}
 use Rattle.poly_seg.specs.declared.Opened.{Opened}
 use Rattle.poly_seg.specs.declared.Booked.{Booked}
@@ -45,29 +46,30 @@ unfolding noDelay both
 zero-delay = refl
 
 -- its tests look at the first places only
-passed-takes : (w : Interval) (p : Polynome) (delays delays′ : List DelaySegment) (k : ℕ) → take k delays ≡ take k delays′ → Passed w p delays k → Passed w p delays′ k
+passed-takes : (h : Choices) (w : Interval) (p : Polynome) (delays delays′ : List DelaySegment) (k : ℕ) → take k delays ≡ take k delays′
+    → Passed h w p delays k → Passed h w p delays′ k
 unfolding delaysOk
-passed-takes w p delays delays′ k e h =
-    record { window = h .window; delay = rw (← e) (h .delay); polynome = h .polynome }
+passed-takes h w p delays delays′ k e t =
+    record { choices = t .choices; window = t .window; delay = rw (← e) (t .delay); polynome = t .polynome }
 
-module _ (w : Interval) (p : Polynome) (delays : List DelaySegment) (k : ℕ) (delay-size : length delays ≡ segmentsMax) (zero : openOf w p delays k .number ≡ 0) where
+module _ (h : Choices) (w : Interval) (p : Polynome) (delays : List DelaySegment) (k : ℕ) (delay-size : length delays ≡ segmentsMax) (zero : openOf h w p delays k .number ≡ 0) where
   abbrev kept : List DelaySegment
   kept = padded segmentsMax zeroDelay (take k delays)
 
   -- what an accepted opening hands back
-  pub opened-manager : openOf w p delays k .manager ≡ doneOf w p kept k (listIn (wholeWindow w 0 ∷ [])) .manager
-  opened-manager = ap (λ (o : Opened). o .manager) (open-done w p delays k (open-passed w p delays k zero))
+  pub opened-manager : openOf h w p delays k .manager ≡ doneOf h w p kept k (listIn (wholeWindow w 0 ∷ [])) .manager
+  opened-manager = ap (λ (o : Opened). o .manager) (open-done h w p delays k (open-passed h w p delays k zero))
 
-  pub opened-keeps : recordOk (openOf w p delays k .manager) ≡ true
+  pub opened-keeps : recordOk (openOf h w p delays k .manager) ≡ true
   unfolding Listed
   opened-keeps =
-      let h = open-passed w p delays k zero in
-      let most = delays-most k delays (h .delay) in
+      let t = open-passed h w p delays k zero in
+      let most = delays-most k delays (t .delay) in
       let size : length (take k delays) ≡ k = simp length-take (omega arith) in
-      let some = window w (h .window) .some in
+      let some = window w (t .window) .some in
       rw opened-manager
       (record-kept _
-      (passed-takes w p delays kept k (sym (take-padded segmentsMax zeroDelay (take k delays) k size)) h)
+      (passed-takes h w p delays kept k (sym (take-padded segmentsMax zeroDelay (take k delays) k size)) t)
       (unused-padded segmentsMax zeroDelay noDelay (take k delays) k size zero-delay)
       (kept-in [] (w .start .0) (w .end .0) (wholeWindow w 0 ∷ []) (omega arith) (omega arith)
       (omega arith, omega arith, omega arith, omega arith, tt)))

@@ -3,6 +3,8 @@ pub mod NoRates
 pub mod Picked
 pub mod Opening
 pub mod Facts
+pub mod Counting
 pub mod Calls
 pub mod Kept
+pub mod Exact
 pub mod Unique

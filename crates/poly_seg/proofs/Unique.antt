@@ -10,11 +10,16 @@ use Rattle.units.proofs.Determined.{Determined}
 use Rattle.segmentation.specs.declared.VolumeSegment.{VolumeSegment}
 use Rattle.segmentation.specs.declared.DelaySegment.{DelaySegment}
 use Rattle.poly.specs.declared.Polynome.{Polynome}
+use Rattle.poly.specs.declared.terms.Terms.{Terms}
+use Rattle.poly_seg.specs.declared.Choices.{Choices}
 use Rattle.poly_seg.specs.declared.PolySeg.{PolySeg}
+use Rattle.poly_seg.proofs.Choices.ported.Reads as ported-reads
+use Rattle.poly_seg.proofs.Choices.ok.Reads as choices-ok-reads
 use Rattle.poly_seg.proofs.delay_ok.Reads as delay-ok-reads
 use Rattle.poly_seg.proofs.delays_ok.Reads as delays-ok-reads
 use Rattle.poly_seg.proofs.bare_segment.Reads as bare-segment-reads
 use Rattle.poly_seg.proofs.bare_ok.Reads as bare-ok-reads
+use Rattle.poly_seg.proofs.end_in.Reads as end-in-reads
 use Rattle.poly_seg.proofs.PolySeg.open.Reads as open-reads
 use Rattle.poly_seg.proofs.PolySeg.ok.Reads as ok-reads
 use Rattle.poly_seg.proofs.PolySeg.chosen.Reads as chosen-reads
@@ -24,6 +29,12 @@ use Rattle.poly_seg.proofs.PolySeg.book_kept.Reads as book-kept-reads
 use Rattle.poly_seg.proofs.PolySeg.book.Reads as book-reads
 use Rattle.poly_seg.proofs.PolySeg.cut.Reads as cut-reads
 use Rattle.poly_seg.proofs.PolySeg.list.Reads as list-reads
+
+pub ported-unique : Determined (ported-reads.Post tt tt)
+ported-unique r q x y f g = f ∙ sym g
+
+pub choices-ok-unique : (h : Choices) → Determined (choices-ok-reads.Post tt (h, tt))
+choices-ok-unique h r q x y f g = f ∙ sym g
 
 pub delay-ok-unique : (s : DelaySegment) → Determined (delay-ok-reads.Post tt (s, tt))
 delay-ok-unique s r q x y f g = f ∙ sym g
@@ -37,8 +48,11 @@ bare-segment-unique s low hi r q x y f g = f ∙ sym g
 pub bare-ok-unique : (segments : List VolumeSegment) (n : ℕ) (w : Interval) → Determined (bare-ok-reads.Post tt (segments, (n, (w, tt))))
 bare-ok-unique segments n w r q x y f g = f ∙ sym g
 
-pub open-unique : (w : Interval) (p : Polynome) (delays : List DelaySegment) (k : ℕ) → Determined (open-reads.Post tt (w, (p, (delays, (k, tt)))))
-open-unique w p delays k r q x y f g = f ∙ sym g
+pub end-in-unique : (w : Interval) (t : Terms) (g : VolumeSegment) (asked : Date) (size : ℕ) → Determined (end-in-reads.Post tt (w, (t, (g, (asked, (size, tt))))))
+end-in-unique w t g asked size r q x y f g′ = f ∙ sym g′
+
+pub open-unique : (h : Choices) (w : Interval) (p : Polynome) (delays : List DelaySegment) (k : ℕ) → Determined (open-reads.Post tt (h, (w, (p, (delays, (k, tt))))))
+open-unique h w p delays k r q x y f g = f ∙ sym g
 
 module _ (self : PolySeg) where
   pub ok-unique : Determined (ok-reads.Post tt (self, tt))

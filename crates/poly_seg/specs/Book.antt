@@ -24,7 +24,7 @@ refusedBooking n r = record { number = n; manager = r }
 -- the record with another free list
 abbrev pub withFree : PolySeg → FreeList → PolySeg
 withFree r f =
-    record { window = r .window; polynome = r .polynome; delays = r .delays; «delay_count» = r .«delay_count»; free = f }
+    record { choices = r .choices; window = r .window; polynome = r .polynome; delays = r .delays; «delay_count» = r .«delay_count»; free = f }
 
 -- what a booking leaves of the record's list, or 10 and the list as it came; no rates and no size, so no volumes
 abbrev pub cutFree : PolySeg → ℕ → Interval → Cut

@@ -1,3 +1,4 @@
+pub mod Choices
 pub mod Open
 pub mod Record
 pub mod DryRun

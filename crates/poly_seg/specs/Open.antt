@@ -1,4 +1,4 @@
--- 01, "Refusal numbers", the polynomial manager's opening: 3, 5, 11 in this order; the whole window is listed, bare.
+-- 01, "Refusal numbers", the polynomial manager's opening: 3, 5, 11 in this order, and 02's 2 before all else; the whole window is listed, bare.
 use Prim.Native.Nat.{ℕ}
 use mathlib.Core.Bool.{Bool}
 use mathlib.Core.List.{List, [], _∷_}
@@ -15,7 +15,9 @@ use Rattle.contact.specs.Segments.{zeroDelay}
 use Rattle.free_list.specs.Cut.{listIn, wholeWindow}
 use Rattle.poly.specs.declared.Polynome.{Polynome}
 use Rattle.poly.specs.Poly.{polyOk}
+use Rattle.poly_seg.specs.declared.Choices.{Choices}
 use Rattle.poly_seg.specs.declared.Opened.{Opened}
+use Rattle.poly_seg.specs.Choices.{choicesOk}
 
 -- the dates and the delay of a delay segment inside their limits
 unfoldable pub delayOk : DelaySegment → Bool
@@ -31,6 +33,7 @@ refusedOpening n =
     record {
       number = n;
       manager = record {
+        choices = record { mode = record { 0 = 0 } };
         window = interval 0 0;
         polynome = record { coefficients = replicate 4 (pos 0); offset = record { 0 = 0 } };
         delays = replicate segmentsMax zeroDelay;
@@ -40,18 +43,20 @@ refusedOpening n =
     }
 
 -- the opening
-unfoldable pub openOf : Interval → Polynome → List DelaySegment → ℕ → Opened
-openOf w p delays k =
-    unless (windowOk w) (refusedOpening 3)
+unfoldable pub openOf : Choices → Interval → Polynome → List DelaySegment → ℕ → Opened
+openOf h w p delays k =
+    unless (choicesOk h) (refusedOpening 2)
+    (unless (windowOk w) (refusedOpening 3)
     (unless (delaysOk k delays) (refusedOpening 5)
-    (unless (polyOk p w) (refusedOpening 11)
+    (unless (polyOk (h .mode .0) p w) (refusedOpening 11)
     (record {
       number = 0;
       manager = record {
+        choices = h;
         window = w;
         polynome = p;
         delays = padded segmentsMax zeroDelay (take k delays);
         «delay_count» = k;
         free = listIn (wholeWindow w 0 ∷ []);
       };
-    })))
+    }))))

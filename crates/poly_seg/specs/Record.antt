@@ -19,7 +19,7 @@ delayList r = take (r .«delay_count») (r .delays)
 -- an opening with the record's own figures is done; with no rates the exact capacity is 0, so each listed volume is 0
 unfoldable pub recordOk : PolySeg → Bool
 recordOk r =
-    both (eqb (openOf (r .window) (r .polynome) (r .delays) (r .«delay_count») .number) 0)
+    both (eqb (openOf (r .choices) (r .window) (r .polynome) (r .delays) (r .«delay_count») .number) 0)
     (both (allOf noDelay (drop (r .«delay_count») (r .delays)))
     (both (leb 1 (r .free .count))
     (both (leb (r .free .count) listedMax)

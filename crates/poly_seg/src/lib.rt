@@ -3,7 +3,9 @@ use free_list::Chosen;
 use free_list::Cut;
 use free_list::Found;
 use free_list::FreeList;
+use poly::Mode;
 use poly::Polynome;
+use poly::terms::Terms;
 use segmentation::DelaySegment;
 use segmentation::Edition;
 use segmentation::End;
@@ -25,6 +27,9 @@ ghost use Rattle.units.specs.Limits.{dateMax, volumeMax, listedMax, windowOk};
 ghost use Rattle.segmentation.specs.Delay.{answerWith};
 ghost use Rattle.free_list.specs.Listed.{segmentOk, listOk};
 ghost use Rattle.free_list.specs.Granted.{Inside};
+ghost use Rattle.poly.specs.Poly.{stepMax};
+ghost use Rattle.poly.specs.Granted.{capacityBy, Ranged};
+ghost use Rattle.poly_seg.specs.Choices.{ported, choicesOk};
 ghost use Rattle.poly_seg.specs.Open.{openOf, refusedOpening, delayOk, delaysOk};
 ghost use Rattle.poly_seg.specs.Record.{recordOk, delayList};
 ghost use Rattle.poly_seg.specs.DryRun.{endIn, foundOf, dryRunOf};
@@ -32,8 +37,36 @@ ghost use Rattle.poly_seg.specs.Book.{bookOf, cutFree, refusedBooking};
 ghost use Rattle.poly_seg.specs.List.{listOf};
 ghost use Rattle.poly_seg.specs.Granted.{chosenOf};
 
+// What an opening chooses and the record names: the mode in which capacity is counted.
+#[repr(C)]
+pub struct Choices {
+    pub mode: Mode,
+}
+
+impl Choices {
+    // What the source has.
+    pub fn ported() -> Choices
+        ensures { λ r. ⌜ r ≡ ported ⌝ }
+    {
+        Choices {
+            mode: Mode(Mode::PORTED),
+        }
+    }
+
+    // Is each choice one that there is?
+    pub fn ok(self) -> bool
+        ensures { λ r. ⌜ r ≡ choicesOk self ⌝ }
+    {
+        if self.mode.0 < Mode::PORTED {
+            return false;
+        }
+        self.mode.0 <= Mode::EXACT
+    }
+}
+
 #[repr(C)]
 pub struct PolySeg {
+    pub choices: Choices,
     pub window: Interval,
     pub polynome: Polynome,
     pub delays: [DelaySegment; DelaySegment::COUNT_MAX],
@@ -132,6 +165,28 @@ pub fn bare_ok(segments: [VolumeSegment; FreeList::COUNT_MAX], n: usize, window:
     }
 }
 
+// The end that a listed segment has for a size as the terms count it: none if it ends before the asked time.
+pub fn end_in(window: Interval, terms: Terms, g: VolumeSegment, asked: Date, size: u64) -> End
+    requires { ⌜ Ranged terms window ⌝ ∗ ⌜ (window .start .0 ≤ g .start .0) × (g .end .0 ≤ window .end .0) ⌝ ∗ ⌜ size ≤ stepMax ⌝ }
+    ensures { λ r. ⌜ r ≡ endIn (capacityBy terms) g (asked .0) size ⌝ }
+{
+    let start = g.start;
+    let end = g.end;
+    if end.0 < asked.0 {
+        return End::None;
+    }
+    let from = units::later(start, asked);
+    terms.find_end(
+        window,
+        Interval {
+            start: start,
+            end: end,
+        },
+        from,
+        size,
+    )
+}
+
 impl PolySeg {
     fn refused_opening(number: u8) -> Opened
         ensures { λ r. ⌜ r ≡ refusedOpening number ⌝ }
@@ -146,6 +201,7 @@ impl PolySeg {
         Opened {
             number: number,
             manager: PolySeg {
+                choices: Choices { mode: Mode(0) },
                 window: Interval {
                     start: Date(0),
                     end: Date(0),
@@ -170,22 +226,26 @@ impl PolySeg {
         }
     }
 
-    // new and try_init: 3, 5, 11 in this order; the whole window is listed, bare.
+    // new and try_init: 2 for a choice that there is not, then 3, 5, 11 in this order; the whole window is listed, bare.
     pub fn open(
+        choices: Choices,
         window: Interval,
         polynome: Polynome,
         delays: [DelaySegment; DelaySegment::COUNT_MAX],
         delay_count: usize,
     ) -> Opened
-        ensures { λ r. ⌜ r ≡ openOf window polynome delays «delay_count» ⌝ }
+        ensures { λ r. ⌜ r ≡ openOf choices window polynome delays «delay_count» ⌝ }
     {
+        if !choices.ok() {
+            return PolySeg::refused_opening(units::refusal::CHOICE);
+        }
         if !window.is_window() {
             return PolySeg::refused_opening(units::refusal::WINDOW);
         }
         if !delays_ok(delays, delay_count) {
             return PolySeg::refused_opening(units::refusal::DELAYS);
         }
-        if !polynome.ok(window) {
+        if !polynome.ok(choices.mode, window) {
             return PolySeg::refused_opening(units::refusal::POLYNOMIAL);
         }
         let kept = contact::opening::delays_of(delays, delay_count);
@@ -193,6 +253,7 @@ impl PolySeg {
         Opened {
             number: 0,
             manager: PolySeg {
+                choices: choices,
                 window: window,
                 polynome: polynome,
                 delays: kept,
@@ -206,6 +267,7 @@ impl PolySeg {
     pub fn ok(self) -> bool
         ensures { λ r. ⌜ r ≡ recordOk self ⌝ }
     {
+        let choices = self.choices;
         let window = self.window;
         let polynome = self.polynome;
         let delays = self.delays;
@@ -213,13 +275,16 @@ impl PolySeg {
         let free = self.free;
         let segments = free.segments;
         let n = free.count;
+        if !choices.ok() {
+            return false;
+        }
         if !window.is_window() {
             return false;
         }
         if !delays_ok(delays, k) {
             return false;
         }
-        if !polynome.ok(window) {
+        if !polynome.ok(choices.mode, window) {
             return false;
         }
         if !contact::test::delays_unused(delays, k) {
@@ -237,45 +302,26 @@ impl PolySeg {
         free_list::unused(segments, n)
     }
 
-    // The end that a listed segment has for the bundle: none if it ends before the asked time.
-    fn end_in(self, g: VolumeSegment, asked: Date, size: Volume) -> End
-        requires { ⌜ recordOk self ≡ true ⌝ ∗ ⌜ (self .window .start .0 ≤ g .start .0) × (g .end .0 ≤ self .window .end .0) ⌝ ∗ ⌜ size .0 ≤ volumeMax ⌝ }
-        ensures { λ r. ⌜ r ≡ endIn (self .polynome) g (asked .0) (size .0) ⌝ }
-    {
-        let start = g.start;
-        let end = g.end;
-        if end.0 < asked.0 {
-            return End::None;
-        }
-        let window = self.window;
-        let polynome = self.polynome;
-        let from = units::later(start, asked);
-        polynome.find_end(
-            window,
-            Interval {
-                start: start,
-                end: end,
-            },
-            from,
-            size,
-        )
-    }
-
     // The search of a dry run, on a record that keeps its rules: a free segment that has no end is passed over.
     fn search(self, asked: Date, size: Volume) -> Found
         requires { ⌜ recordOk self ≡ true ⌝ ∗ ⌜ size .0 ≤ volumeMax ⌝ }
         ensures { λ r. ⌜ r ≡ foundOf self (asked .0) (size .0) ⌝ }
     {
+        let window = self.window;
+        let polynome = self.polynome;
+        let mode = self.choices.mode;
         let free = self.free;
         let segments = free.segments;
         let n = free.count;
+        let terms = polynome.terms(mode, window);
+        let wanted = mode.wanted(size);
         let mut i: usize = 0;
         loop {
             if n <= i {
                 break Found::None;
             }
             let g = segments[i];
-            let End::At(e) = self.end_in(g, asked, size) else {
+            let End::At(e) = end_in(window, terms, g, asked, wanted) else {
                 i += 1;
                 continue;
             };

@@ -1,8 +1,9 @@
 // The polynomial manager's search over a free list lent as numbers.
 use free_list::Found;
+use poly::Mode;
 use poly::Polynome;
+use poly_seg::Choices;
 use segmentation::End;
-use segmentation::VolumeSegment;
 use units::Date;
 use units::Interval;
 use units::Volume;
@@ -15,43 +16,31 @@ ghost use Prim.Native.Nat.{_≤_};
 ghost use lib.ListN.{take};
 ghost use Rattle.units.specs.Limits.{volumeMax, listedMax};
 ghost use Rattle.free_list.specs.Listed.{listOk};
-ghost use Rattle.poly.specs.Granted.{Ranged};
-ghost use Rattle.poly_seg.specs.DryRun.{endIn, offerOf};
+ghost use Rattle.poly.specs.Poly.{capacityTo};
+ghost use Rattle.poly.specs.Search.{wantedOf};
+ghost use Rattle.poly.specs.Granted.{termsOf, Ranged};
+ghost use Rattle.poly_seg.specs.DryRun.{offerOf};
 ghost use Rattle.words.specs.Words.{volumesIn};
+ghost use Rattle.poly_words.specs.Words.{choicesIn};
+
+// The numbers of a record's choices, one to a choice.
+pub const CHOICES: usize = 1;
 
 // Lent as a slice, an array tells its length; no code is left of it.
 fn told(words: &[u64]) {}
 
-// The end that a listed segment has for the bundle: none if it ends before the asked time.
-pub fn end_in(
-    window: Interval,
-    polynome: Polynome,
-    g: VolumeSegment,
-    asked: Date,
-    size: Volume,
-) -> End
-    requires { ⌜ Ranged polynome window ⌝ ∗ ⌜ (window .start .0 ≤ g .start .0) × (g .end .0 ≤ window .end .0) ⌝ ∗ ⌜ size .0 ≤ volumeMax ⌝ }
-    ensures { λ r. ⌜ r ≡ endIn polynome g (asked .0) (size .0) ⌝ }
+// The choices of these numbers.
+pub fn choices_at(choices: &[u64; CHOICES]) -> Choices
+    ensures { λ r. ⌜ r ≡ choicesIn (now (choices .entry)) ⌝ }
 {
-    let start = g.start;
-    let end = g.end;
-    if end.0 < asked.0 {
-        return End::None;
+    Choices {
+        mode: Mode(choices[0]),
     }
-    let from = units::later(start, asked);
-    polynome.find_end(
-        window,
-        Interval {
-            start: start,
-            end: end,
-        },
-        from,
-        size,
-    )
 }
 
 // dry_run_tx: a free segment that has no end is passed over.
 pub fn find_offer(
+    mode: Mode,
     window: Interval,
     polynome: Polynome,
     free: &[u64; LISTED],
@@ -59,17 +48,19 @@ pub fn find_offer(
     asked: Date,
     size: Volume,
 ) -> Found
-    requires { ⌜ n ≤ listedMax ⌝ ∗ ⌜ Ranged polynome window ⌝ ∗ ⌜ listOk [] (window .start .0) (window .end .0) (take n (volumesIn (now free))) ≡ true ⌝ ∗ ⌜ size .0 ≤ volumeMax ⌝ }
-    ensures { λ r. ⌜ r ≡ offerOf polynome (take n (volumesIn (now (free .entry)))) (asked .0) (size .0) ⌝ }
+    requires { ⌜ n ≤ listedMax ⌝ ∗ ⌜ Ranged (termsOf (mode .0) polynome) window ⌝ ∗ ⌜ listOk [] (window .start .0) (window .end .0) (take n (volumesIn (now free))) ≡ true ⌝ ∗ ⌜ size .0 ≤ volumeMax ⌝ }
+    ensures { λ r. ⌜ r ≡ offerOf (capacityTo (mode .0) polynome) (take n (volumesIn (now (free .entry)))) (asked .0) (wantedOf (mode .0) (size .0)) ⌝ }
 {
     told(free);
+    let terms = polynome.terms(mode, window);
+    let wanted = mode.wanted(size);
     let mut i: usize = 0;
     loop {
         if n <= i {
             break Found::None;
         }
         let g = listed_at(free, i);
-        let End::At(e) = end_in(window, polynome, g, asked, size) else {
+        let End::At(e) = poly_seg::end_in(window, terms, g, asked, wanted) else {
             i += 1;
             continue;
         };

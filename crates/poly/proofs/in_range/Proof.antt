@@ -5,26 +5,39 @@ use mathlib.Core.Path.{_≡_, refl, sym, _∙_}
 use Prim.Native.Nat.{ℕ, _*_}
 use native.Mathlib.Omega.{arith}
 use lib.Dec.{leb}
+use lib.IntN.{ℤ}
 use Rattle.units.proofs.Logic.{both-go, both-stop}
-use Rattle.poly.specs.Poly.{stepMax, rangeOk}
-use Rattle.poly.proofs.Abs.{abs-i64}
-use Rattle.poly.proofs.Capped.{capped, capped-step, capped-within, capped-beyond, capped-test, read-abs, read-quot, read-whole}
+use Rattle.poly.specs.Poly.{stepMax, termOf, rangeOk}
+use Rattle.poly.proofs.Capped.{capped, capped-step, capped-within, capped-beyond, capped-test, read-term}
 use Rattle.poly.proofs.Steps.{M3, M2, M1, M0}
 use Rattle.poly.proofs.in_range.Statement.{statement}
 use Rattle.poly.proofs.in_range.Tie as tie
 
 module _ (s : tie.Start) where
+  -- the terms
+  abbrev t0 : ℤ
+  t0 = termOf (s .args .mode .0) (s .args .c0) 1
+
+  abbrev t1 : ℤ
+  t1 = termOf (s .args .mode .0) (s .args .c1) 2
+
+  abbrev t2 : ℤ
+  t2 = termOf (s .args .mode .0) (s .args .c2) 3
+
+  abbrev t3 : ℤ
+  t3 = termOf (s .args .mode .0) (s .args .c3) 4
+
   abbrev m3 : ℕ
-  m3 = M3 (s .args .c3) (s .args .m)
+  m3 = M3 t3 (s .args .m)
 
   abbrev m2 : ℕ
-  m2 = M2 (s .args .c2) (s .args .c3) (s .args .m)
+  m2 = M2 t2 t3 (s .args .m)
 
   abbrev m1 : ℕ
-  m1 = M1 (s .args .c1) (s .args .c2) (s .args .c3) (s .args .m)
+  m1 = M1 t1 t2 t3 (s .args .m)
 
   abbrev m0 : ℕ
-  m0 = M0 (s .args .c0) (s .args .c1) (s .args .c2) (s .args .c3) (s .args .m)
+  m0 = M0 t0 t1 t2 t3 (s .args .m)
 
 -- the parameters, from the place past each test
 abbrev start3 : tie.Else1 → tie.Start
@@ -43,8 +56,8 @@ start0 c = start1 (c .before .before .before)
 at3 : (c : tie.After-mag-step) → c .mag-step .result ≡ capped (m3 (c .before .before))
 at3 c =
     let s = c .before .before in
-    capped-step 0 (s .args .m) _ _ (s .args .c3) 4 refl
-    (read-quot (s .args .c3) (s .fits .c3) _ (c .before .magnitude .ensures) 4) (c .mag-step .ensures)
+    capped-step 0 (s .args .m) _ _ (t3 s) refl
+    (read-term (s .args .mode .0) (s .args .c3) (s .fits .c3) 4 (c .before .magnitude .ensures)) (c .mag-step .ensures)
 
 is3 : (c : tie.Else1) → c .before .mag-step .result ≡ m3 (start3 c)
 is3 c = omega (arith, at3 (c .before))
@@ -52,8 +65,8 @@ is3 c = omega (arith, at3 (c .before))
 at2 : (c : tie.After-mag-step2) → c .mag-step2 .result ≡ capped (m2 (start3 (c .before .before)))
 at2 c =
     let s = start3 (c .before .before) in
-    capped-step _ (s .args .m) _ _ (s .args .c2) 3 (is3 (c .before .before))
-    (read-quot (s .args .c2) (s .fits .c2) _ (c .before .magnitude2 .ensures) 3) (c .mag-step2 .ensures)
+    capped-step _ (s .args .m) _ _ (t2 s) (is3 (c .before .before))
+    (read-term (s .args .mode .0) (s .args .c2) (s .fits .c2) 3 (c .before .magnitude2 .ensures)) (c .mag-step2 .ensures)
 
 is2 : (c : tie.Else2) → c .before .mag-step2 .result ≡ m2 (start2 c)
 is2 c = omega (arith, at2 (c .before))
@@ -61,8 +74,8 @@ is2 c = omega (arith, at2 (c .before))
 at1 : (c : tie.After-mag-step3) → c .mag-step3 .result ≡ capped (m1 (start2 (c .before .before)))
 at1 c =
     let s = start2 (c .before .before) in
-    capped-step _ (s .args .m) _ _ (s .args .c1) 2 (is2 (c .before .before))
-    (read-quot (s .args .c1) (s .fits .c1) _ (c .before .magnitude3 .ensures) 2) (c .mag-step3 .ensures)
+    capped-step _ (s .args .m) _ _ (t1 s) (is2 (c .before .before))
+    (read-term (s .args .mode .0) (s .args .c1) (s .fits .c1) 2 (c .before .magnitude3 .ensures)) (c .mag-step3 .ensures)
 
 is1 : (c : tie.Else3) → c .before .mag-step3 .result ≡ m1 (start1 c)
 is1 c = omega (arith, at1 (c .before))
@@ -70,8 +83,8 @@ is1 c = omega (arith, at1 (c .before))
 at0 : (c : tie.After-mag-step4) → c .mag-step4 .result ≡ capped (m0 (start1 (c .before .before)))
 at0 c =
     let s = start1 (c .before .before) in
-    capped-step _ (s .args .m) _ _ (s .args .c0) 1 (is1 (c .before .before))
-    (read-whole (s .args .c0) (s .fits .c0) _ (c .before .magnitude4 .ensures)) (c .mag-step4 .ensures)
+    capped-step _ (s .args .m) _ _ (t0 s) (is1 (c .before .before))
+    (read-term (s .args .mode .0) (s .args .c0) (s .fits .c0) 1 (c .before .magnitude4 .ensures)) (c .mag-step4 .ensures)
 
 is0 : (c : tie.Else4) → c .before .mag-step4 .result ≡ m0 (start0 c)
 is0 c = omega (arith, at0 (c .before))
@@ -131,9 +144,7 @@ magnitude-requires-4 : tie.Need-magnitude-requires-4
 magnitude-requires-4 c κs = search needs
 
 mag-step-requires-4 : tie.Need-mag-step-requires-4
-mag-step-requires-4 c κs =
-    let s = start1 (c .before) in
-    (search needs, omega (arith, read-abs (s .args .c0) (s .fits .c0) _ (c .magnitude4 .ensures), abs-i64 (s .args .c0) (s .fits .c0)))
+mag-step-requires-4 c κs = search needs
 
 returns-4 : tie.Need-returns-4
 unfolding rangeOk

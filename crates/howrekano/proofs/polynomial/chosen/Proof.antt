@@ -1,17 +1,18 @@
 -- `howrekano::polynomial::chosen` meets its contract, refusal by refusal: a record that keeps its rules has what the search and the answer ask.
 use borrow.Author.Needs.{needs}
 use mathlib.Core.Bool.{true}
-use mathlib.Core.Path.{_≡_, sym, _∙_}
+use mathlib.Core.Path.{_≡_, refl, sym, ap, _∙_}
 use Rattle.units.specs.Limits.{bundleOk}
 use Rattle.units.proofs.Choice.{told-yes, told-no}
 use Rattle.free_list.specs.declared.Found.the-variants.{At}
 use Rattle.free_list.proofs.ByChoice.{chosen-stop, chosen-found}
+use Rattle.poly_seg.specs.declared.Choices.{Choices}
 use Rattle.poly_seg.specs.declared.PolySeg.{PolySeg}
 use Rattle.poly_seg.specs.Record.{delayList}
 use Rattle.poly_seg.specs.DryRun.{foundOf}
 use Rattle.poly_seg.specs.Granted.{chosenOf}
 use Rattle.howrekano.specs.Words.{polySegIn}
-use Rattle.howrekano.proofs.PolynomialDryRun.{search-asks, answer-asks}
+use Rattle.howrekano.proofs.PolynomialDryRun.{search-of, search-asks, answer-asks}
 use Rattle.howrekano.proofs.polynomial.chosen.Statement.{statement}
 use Rattle.howrekano.proofs.polynomial.chosen.Tie as tie
 
@@ -19,17 +20,31 @@ use Rattle.howrekano.proofs.polynomial.chosen.Tie as tie
 abbrev lent : tie.Start → PolySeg
 lent c =
     let a = c .args in
-    polySegIn (a .window) (a .polynome) (a .delays .now) (a .delay-count) (a .free .now) (a .count)
+    polySegIn (a .choices .now) (a .window) (a .polynome) (a .delays .now) (a .delay-count) (a .free .now) (a .count)
 
 -- the test that holds
 bundle-holds : (c : tie.Else1) → let a = c .before .before .args in bundleOk (a .at) (a .bundle) ≡ true
 bundle-holds c = told-yes (c .before .ok-at .ensures) (c .if1 .left)
 
+-- the mode is the record's
+mode-is : (c : tie.After-choices-at) → c .choices-at .result .mode .0 ≡ lent (c .before .before .before .before) .choices .mode .0
+mode-is c = ap (λ (h : Choices). h .mode .0) (c .choices-at .ensures)
+
+-- where the search starts
+abbrev begin : tie.After-find-offer → tie.Else1
+begin c = c .before .before .before .before
+
+-- it is the search of the record's mode
+found-is : (c : tie.After-find-offer) →
+    let s = begin c .before .before in
+    c .find-offer .result ≡ foundOf (lent s) (s .args .at .0) (s .args .bundle .size .0)
+found-is c = c .find-offer .ensures ∙ search-of (lent (begin c .before .before)) _ _ (mode-is (c .before .before)) refl _ _
+
 -- what the search found
 found : (c : tie.After-place) →
-    let s = c .before .before .before .before .before .before in
+    let s = begin (c .before .before) .before .before in
     foundOf (lent s) (s .args .at .0) (s .args .bundle .size .0) ≡ At (c .place .given .0 .0) (c .place .given .0 .1 .0)
-found c = sym (c .before .before .find-offer .ensures) ∙ c .place .given .1
+found c = sym (found-is (c .before .before)) ∙ c .place .given .1
 
 ok-at-requires : tie.Need-ok-at-requires
 ok-at-requires c κs = search needs
@@ -46,10 +61,13 @@ returns c =
     c .refused .ensures
     ∙ sym (chosen-stop _ (delayList r) (foundOf r (a .at .0) (a .bundle .size .0)) (told-no (t .ok-at .ensures) (c .before .if1 .taken)))
 
+choices-at-requires : tie.Need-choices-at-requires
+choices-at-requires c κs = search needs
+
 find-offer-requires : tie.Need-find-offer-requires
 find-offer-requires c κs =
-    let e = c .before in
-    search-asks _ _ _ (e .before .before .pre) (bundle-holds e)
+    let e = c .before .before .before in
+    rw (mode-is (c .before)) (search-asks _ _ _ (e .before .before .pre) (bundle-holds e))
 
 enum-known-place : tie.Need-enum-known-place
 enum-known-place c = search needs
@@ -65,19 +83,19 @@ unfolding chosenOf
 returns-2 c =
     let f = c .before .before .before in
     c .refused2 .ensures
-    ∙ sym (chosen-found _ _ _ (bundle-holds (f .before .before)) (sym (f .find-offer .ensures) ∙ c .before .enum-told .given .1))
+    ∙ sym (chosen-found _ _ _ (bundle-holds (begin f)) (sym (found-is f) ∙ c .before .enum-told .given .1))
 
 answer-at-requires : tie.Need-answer-at-requires
 answer-at-requires c κs =
     let p = c .before in
-    let e = p .before .before .before .before in
+    let e = begin (p .before .before) in
     answer-asks _ _ _ (e .before .before .pre) (bundle-holds e) _ _ (found p)
 
 returns-3 : tie.Need-returns-3
 unfolding chosenOf
 returns-3 c =
     let p = c .before .before in
-    rw (c .answer-at .ensures) (sym (chosen-found _ _ _ (bundle-holds (p .before .before .before .before)) (found p)))
+    rw (c .answer-at .ensures) (sym (chosen-found _ _ _ (bundle-holds (begin (p .before .before))) (found p)))
 
 pub chosen-spec : {M : Type 1} → statement M
 chosen-spec =
@@ -86,6 +104,7 @@ chosen-spec =
     ok-at-requires
     refused-requires
     returns
+    choices-at-requires
     find-offer-requires
     enum-known-place
     enum-told

@@ -19,7 +19,7 @@ use Rattle.howrekano.proofs.polynomial.hk_polynomial_book_kept.Tie as t
 abbrev lent : tie.Start → PolySeg
 lent c =
     let a = c .args in
-    polySegIn (a .window) (polynomeIn (a .coefficients .now) (a .offset)) (a .delays .now) (a .delay-count) (a .free .now) (a .count .now)
+    polySegIn (a .choices .now) (a .window) (polynomeIn (a .coefficients .now) (a .offset)) (a .delays .now) (a .delay-count) (a .free .now) (a .count .now)
 
 -- where the call starts, from where the refusal is told
 abbrev start : tie.After-refusal → tie.Start

@@ -1,15 +1,16 @@
 -- `howrekano::polynomial::hk_polynomial_dry_run_kept` meets its contract, refusal by refusal.
 use borrow.Author.Needs.{needs}
 use mathlib.Core.Bool.{true}
-use mathlib.Core.Path.{_≡_, sym, _∙_}
+use mathlib.Core.Path.{_≡_, sym, ap, _∙_}
 use Rattle.units.specs.Limits.{bundleOk}
 use Rattle.units.proofs.Choice.{told-yes, told-no}
 use Rattle.free_list.specs.declared.Found.the-variants.{At}
+use Rattle.poly_seg.specs.declared.Choices.{Choices}
 use Rattle.poly_seg.specs.declared.PolySeg.{PolySeg}
 use Rattle.poly_seg.specs.Record.{recordOk}
 use Rattle.poly_seg.specs.DryRun.{foundOf}
 use Rattle.howrekano.specs.Words.{polynomeIn, polySegIn}
-use Rattle.howrekano.proofs.PolynomialDryRun.{dry-bundle, dry-found, search-asks, answer-asks}
+use Rattle.howrekano.proofs.PolynomialDryRun.{search-of, dry-bundle, dry-found, search-asks, answer-asks}
 use Rattle.howrekano.proofs.polynomial.hk_polynomial_dry_run_kept.Statement.{statement}
 use Rattle.howrekano.proofs.polynomial.hk_polynomial_dry_run_kept.Tie as tie
 
@@ -17,7 +18,7 @@ use Rattle.howrekano.proofs.polynomial.hk_polynomial_dry_run_kept.Tie a
 abbrev lent : tie.Start → PolySeg
 lent c =
     let a = c .args in
-    polySegIn (a .window) (polynomeIn (a .coefficients .now) (a .offset)) (a .delays .now) (a .delay-count) (a .free .now) (a .count)
+    polySegIn (a .choices .now) (a .window) (polynomeIn (a .coefficients .now) (a .offset)) (a .delays .now) (a .delay-count) (a .free .now) (a .count)
 
 keeps : (c : tie.Start) → recordOk (lent c) ≡ true
 keeps c = c .pre
@@ -26,14 +27,28 @@ keeps c = c .pre
 bundle-holds : (c : tie.Else1) → let a = c .before .before .before .args in bundleOk (a .at) (a .bundle) ≡ true
 bundle-holds c = told-yes (c .before .ok-at .ensures) (c .if1 .left)
 
--- what the search gives
+-- the mode is the record's
+mode-is : (c : tie.After-choices-at) → c .choices-at .result .mode .0 ≡ lent (c .before .before .before .before .before) .choices .mode .0
+mode-is c = ap (λ (h : Choices). h .mode .0) (c .choices-at .ensures)
+
+-- where the search starts
+abbrev begin : tie.After-find-offer → tie.Else1
+begin c = c .before .before .before .before
+
+-- where the call starts, from there
+abbrev start : tie.Else1 → tie.Start
+start c = c .before .before .before
+
+-- it is the search of the record's polynomial and mode
 search-is : (c : tie.After-find-offer) →
-    let s = c .before .before .before .before .before in
+    let s = start (begin c) in
     c .find-offer .result ≡ foundOf (lent s) (s .args .at .0) (s .args .bundle .size .0)
-search-is c = rw (c .before .before .before .before .polynome-at .ensures) at (c .find-offer .ensures)
+search-is c =
+    c .find-offer .ensures
+    ∙ search-of (lent (start (begin c))) _ _ (mode-is (c .before .before)) (begin c .before .before .polynome-at .ensures) _ _
 
 found : (c : tie.After-send) →
-    let s = c .before .before .before .before .before .before .before in
+    let s = start (begin (c .before .before)) in
     foundOf (lent s) (s .args .at .0) (s .args .bundle .size .0) ≡ At (c .send .given .0 .0) (c .send .given .0 .1 .0)
 found c = sym (search-is (c .before .before)) ∙ c .send .given .1
 
@@ -51,11 +66,13 @@ returns c =
     let t = c .before .before in
     c .refused .ensures ∙ sym (dry-bundle _ _ _ (keeps (t .before .before)) (told-no (t .ok-at .ensures) (c .before .if1 .taken)))
 
+choices-at-requires : tie.Need-choices-at-requires
+choices-at-requires c κs = search needs
+
 find-offer-requires : tie.Need-find-offer-requires
 find-offer-requires c κs =
-    let e = c .before in
-    let p = e .before .before in
-    rw (p .polynome-at .ensures) (search-asks _ _ _ (keeps (p .before)) (bundle-holds e))
+    let e = c .before .before .before in
+    rw (mode-is (c .before), e .before .before .polynome-at .ensures) (search-asks _ _ _ (keeps (start e)) (bundle-holds e))
 
 enum-known-send : tie.Need-enum-known-send
 enum-known-send c = search needs
@@ -69,21 +86,21 @@ refused-requires-2 c κs = search needs
 returns-2 : tie.Need-returns-2
 returns-2 c =
     let f = c .before .before .before in
-    let e = f .before .before in
+    let e = begin f in
     c .refused2 .ensures
-    ∙ sym (dry-found _ _ _ (keeps (e .before .before .before)) (bundle-holds e) (sym (search-is f) ∙ c .before .enum-told .given .1))
+    ∙ sym (dry-found _ _ _ (keeps (start e)) (bundle-holds e) (sym (search-is f) ∙ c .before .enum-told .given .1))
 
 answer-at-requires : tie.Need-answer-at-requires
 answer-at-requires c κs =
     let p = c .before in
-    let e = p .before .before .before .before in
-    answer-asks _ _ _ (keeps (e .before .before .before)) (bundle-holds e) _ _ (found p)
+    let e = begin (p .before .before) in
+    answer-asks _ _ _ (keeps (start e)) (bundle-holds e) _ _ (found p)
 
 returns-3 : tie.Need-returns-3
 returns-3 c =
     let p = c .before .before in
-    let e = p .before .before .before .before in
-    c .answer-at .ensures ∙ sym (dry-found _ _ _ (keeps (e .before .before .before)) (bundle-holds e) (found p))
+    let e = begin (p .before .before) in
+    c .answer-at .ensures ∙ sym (dry-found _ _ _ (keeps (start e)) (bundle-holds e) (found p))
 
 pub hk-polynomial-dry-run-kept-spec : {M : Type 1} → statement M
 hk-polynomial-dry-run-kept-spec =
@@ -93,6 +110,7 @@ hk-polynomial-dry-run-kept-spec =
     ok-at-requires
     refused-requires
     returns
+    choices-at-requires
     find-offer-requires
     enum-known-send
     enum-told

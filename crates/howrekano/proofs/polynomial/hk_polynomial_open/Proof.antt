@@ -13,4 +13,4 @@ use Rattle.howrekano.proofs.Lends.{lends}
 pub hk-polynomial-open-spec : {M : Type 1} → stated.statement M
 unfolding code.routine
 hk-polynomial-open-spec 𝓤 H 𝓜 𝓖 𝓡 =
-    lends polynomial-opening (struct polynomial-opened) (λ x. openOf (x .window) (x .polynome) (x .delays) (x .«delay_count»)) 𝓤 (total 𝓤) H 𝓜 𝓖 𝓡 self.name code.env callee.name (code.unfolded 𝓤 H 𝓜 𝓡) callee.routine code.calls-howrekano·polynomial·opened (callee-thm.met 𝓤 H 𝓜 𝓖 𝓡)
+    lends polynomial-opening (struct polynomial-opened) (λ x. openOf (x .choices) (x .window) (x .polynome) (x .delays) (x .«delay_count»)) 𝓤 (total 𝓤) H 𝓜 𝓖 𝓡 self.name code.env callee.name (code.unfolded 𝓤 H 𝓜 𝓡) callee.routine code.calls-howrekano·polynomial·opened (callee-thm.met 𝓤 H 𝓜 𝓖 𝓡)

@@ -4,20 +4,19 @@ use borrow.Author.Tests.{le-leb, lt-leb, not-true, not-false}
 use mathlib.Core.Bool.{Bool}
 use mathlib.Core.Logic.{⊎-elim}
 use mathlib.Core.Path.{_≡_, sym, _∙_}
+use Prim.Native.Nat.{ℕ}
 use native.Mathlib.Omega.{arith}
 use Rattle.units.proofs.Logic.{both-go, both-stop}
 use Rattle.units.specs.declared.Interval.{Interval}
 use Rattle.poly.specs.declared.Polynome.{Polynome}
-use Rattle.poly.specs.Poly.{coefficient, rangeOk, polyOk, farOf}
+use Rattle.poly.specs.Poly.{term, rangeOk, polyOk, farOf}
 use Rattle.poly.proofs.Back.{coefficient-back}
 use Rattle.poly.proofs.Polynome.ok.Statement.{statement}
 use Rattle.poly.proofs.Polynome.ok.Tie as tie
 
 -- the range rule at the farthest
-abbrev rest : Polynome → Interval → Bool
-rest p w =
-    let cs = p .coefficients in
-    rangeOk (coefficient cs 0) (coefficient cs 1) (coefficient cs 2) (coefficient cs 3) (farOf p w)
+abbrev rest : ℕ → Polynome → Interval → Bool
+rest mode p w = rangeOk (term mode p 0) (term mode p 1) (term mode p 2) (term mode p 3) (farOf p w)
 
 -- the parameters, from the places that follow
 abbrev start : tie.Else2 → tie.Start
@@ -62,7 +61,7 @@ in-range-requires : tie.Need-in-range-requires
 in-range-requires c κs = search needs
 
 -- the tests before the range rule held
-held : (c : tie.Else2) → polyOk (start c .args .t1) (start c .args .window) ≡ rest (start c .args .t1) (start c .args .window)
+held : (c : tie.Else2) → polyOk (start c .args .mode .0) (start c .args .t1) (start c .args .window) ≡ rest (start c .args .mode .0) (start c .args .t1) (start c .args .window)
 unfolding polyOk
 held c =
     both-go _ _ (le-leb _ _ (c .before .before .if1 .left))
