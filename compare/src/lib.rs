@@ -30,5 +30,6 @@ pub mod serve;
 pub mod state;
 pub mod stated;
 pub mod terminal;
+pub mod trial;
 
 pub use state::Oracle;

@@ -1,7 +1,8 @@
 //! The calls under test, by number and values.
 
-use super::terms::{Call, Opening, Said};
+use super::terms::{Call, Opening};
 use crate::frames::{Dates, Request, Span};
+use crate::trial::answers::Said;
 
 /// One manager's calls on the record that is open; document 01's number where
 /// they are refused. With nothing open all but `open` answer 1.
@@ -21,23 +22,12 @@ pub trait Calls {
 
 pub fn ask(calls: &mut impl Calls, call: &Call) -> Said {
     match call {
-        Call::Open(opening) => number(calls.open(opening)),
-        Call::DryRun(request) => said(calls.dry_run(*request), Said::Offer),
-        Call::Book(request, stated) => number(calls.book(*request, *stated)),
-        Call::List => said(calls.list(), Said::Listed),
-        Call::Room => said(calls.room(), Said::Room),
-        Call::Edition(edition) => number(calls.name_edition(*edition)),
-    }
-}
-
-fn number(result: Result<(), u8>) -> Said {
-    Said::Number(result.err().unwrap_or(0))
-}
-
-fn said<T>(result: Result<T, u8>, say: impl Fn(T) -> Said) -> Said {
-    match result {
-        Ok(value) => say(value),
-        Err(number) => Said::Number(number),
+        Call::Open(opening) => Said::done(calls.open(opening)),
+        Call::DryRun(request) => Said::with(calls.dry_run(*request), Said::Offer),
+        Call::Book(request, stated) => Said::done(calls.book(*request, *stated)),
+        Call::List => Said::with(calls.list(), Said::Listed),
+        Call::Room => Said::with(calls.room(), Said::Room),
+        Call::Edition(edition) => Said::done(calls.name_edition(*edition)),
     }
 }
 

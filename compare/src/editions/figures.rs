@@ -1,9 +1,11 @@
 //! What was called and how it was answered, as figures.
 
-use std::collections::BTreeMap;
 use std::fmt;
 
 use super::terms::{Call, Manager, SECOND};
+use crate::trial::Counted;
+use crate::trial::tally::Tally;
+use crate::trial::words::grouped;
 
 /// The edition of the record that was called, or of the opening.
 type Edition = u64;
@@ -42,10 +44,12 @@ impl Sort {
     }
 }
 
+/// Manager, edition and sort of call.
+type Called = (&'static str, Edition, Sort);
+
 #[derive(Clone, Debug, Default, PartialEq, Eq)]
 pub struct Figures {
-    /// By manager, edition, sort of call and number.
-    counts: BTreeMap<(&'static str, Edition, Sort, u8), usize>,
+    answers: Tally<Called>,
     pub dialogues: usize,
     pub differences: usize,
     /// Segments of the longest list.
@@ -63,8 +67,7 @@ impl Figures {
             Manager::Free => "free volume",
             Manager::Priority => "priority",
         };
-        let key = (manager, named(edition), sort, number);
-        *self.counts.entry(key).or_default() += 1;
+        self.answers.count((manager, named(edition), sort), number);
     }
 
     pub fn count_sums(&mut self, edition: Edition) {
@@ -72,32 +75,30 @@ impl Figures {
         self.sums_second += usize::from(edition == SECOND);
     }
 
-    pub fn calls(&self) -> usize {
-        self.counts.values().sum()
-    }
-
     pub fn calls_of(&self, edition: Edition) -> usize {
-        let of_it = self.counts.iter().filter(|(key, _)| key.1 == edition);
-        of_it.map(|(_, count)| count).sum()
+        self.answers.of(|called, _| called.1 == edition)
     }
 
     /// How often a call of this sort on this edition's records got this number,
     /// from either manager.
     pub fn answered(&self, edition: Edition, sort: Sort, number: u8) -> usize {
         let wanted = (named(edition), sort, number);
-        let fits = |key: &(_, _, _, _)| (key.1, key.2, key.3) == wanted;
-        let of_it = self.counts.iter().filter(|(key, _)| fits(key));
-        of_it.map(|(_, count)| count).sum()
+        self.answers
+            .of(|called, number| (called.1, called.2, number) == wanted)
+    }
+}
+
+impl Counted for Figures {
+    fn calls(&self) -> usize {
+        self.answers.all()
     }
 
-    /// A line for each manager, edition and sort of call.
-    fn by_sort(&self) -> BTreeMap<(&'static str, Edition, Sort), Vec<String>> {
-        let mut lines: BTreeMap<_, Vec<String>> = BTreeMap::new();
-        for ((manager, edition, sort, number), count) in &self.counts {
-            let answers = lines.entry((*manager, *edition, *sort)).or_default();
-            answers.push(format!("{} answered {number}", grouped(*count)));
-        }
-        lines
+    fn dialogues(&mut self) -> &mut usize {
+        &mut self.dialogues
+    }
+
+    fn differences(&mut self) -> &mut usize {
+        &mut self.differences
     }
 }
 
@@ -106,27 +107,14 @@ fn named(edition: Edition) -> Edition {
     if edition > SECOND { 0 } else { edition }
 }
 
-/// Digits in groups of three.
-pub fn grouped(number: usize) -> String {
-    let digits = number.to_string();
-    let mut text = String::new();
-    for (place, digit) in digits.chars().enumerate() {
-        if place > 0 && (digits.len() - place).is_multiple_of(3) {
-            text.push(',');
-        }
-        text.push(digit);
-    }
-    text
-}
-
 impl fmt::Display for Figures {
     fn fmt(&self, text: &mut fmt::Formatter) -> fmt::Result {
-        for ((manager, edition, sort), answers) in self.by_sort() {
+        for ((manager, edition, sort), answers) in self.answers.lines() {
             let edition = match edition {
                 0 => "no edition".to_string(),
                 known => format!("edition {known}"),
             };
-            let (sort, answers) = (sort.name(), answers.join(", "));
+            let sort = sort.name();
             writeln!(text, "{manager}, {edition}, {sort}: {answers}")?;
         }
         for (about, count) in [

@@ -12,15 +12,13 @@ pub mod figures;
 pub mod play;
 pub mod program;
 pub mod reading;
-pub mod shrink;
 pub mod sums;
 pub mod terms;
 
-use crate::drive::Progress;
+use crate::trial;
 use calls::Calls;
 use dialogues::{Dialogues, Editions};
 use figures::Figures;
-use play::Difference;
 use terms::{Dialogue, Manager};
 
 pub struct Settings {
@@ -30,37 +28,14 @@ pub struct Settings {
     pub editions: Editions,
 }
 
-pub struct Outcome {
-    pub figures: Figures,
-    pub found: Option<Found>,
-}
-
-/// A difference, in the shortest dialogue found that shows one.
-pub struct Found {
-    pub dialogue: Dialogue,
-    pub difference: Difference,
-}
+pub type Outcome = trial::Outcome<Figures, Dialogue>;
 
 /// Plays dialogues until enough calls have been made or an answer is wrong.
 /// `make` gives the calls of a manager with nothing open.
 pub fn check<C: Calls>(settings: &Settings, make: impl Fn(Manager) -> C) -> Outcome {
     let mut dialogues = Dialogues::of(settings.seed, settings.editions);
-    let mut figures = Figures::default();
-    let mut progress = Progress::new("calls", settings.calls);
-    let mut found = None;
-    while found.is_none() && figures.calls() < settings.calls {
-        let dialogue = dialogues.dialogue();
-        figures.dialogues += 1;
-        let mut tested = make(dialogue.manager);
-        if let Some(difference) = play::play(&dialogue, &mut tested, &mut figures) {
-            figures.differences += 1;
-            let (dialogue, difference) = shrink::shrink(&make, &dialogue, difference);
-            found = Some(Found {
-                dialogue,
-                difference,
-            });
-        }
-        progress.report(figures.calls());
-    }
-    Outcome { figures, found }
+    let play = |dialogue: &Dialogue, figures: &mut Figures| {
+        play::play(dialogue, &mut make(dialogue.manager), figures)
+    };
+    trial::check(settings.calls, || dialogues.dialogue(), play)
 }

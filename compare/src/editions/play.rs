@@ -5,36 +5,16 @@ use super::calls::{Calls, ask};
 use super::figures::{Figures, Sort};
 use super::reading::Reading;
 use super::sums::Sums;
-use super::terms::{Call, Dialogue, FIRST, Manager, Opening, SECOND, Said, is_edition};
+use super::terms::{Call, Dialogue, FIRST, Manager, Opening, SECOND, is_edition};
 use crate::frames::{Dates, Request};
-
-/// What is not as it must be, at a call of the dialogue.
-#[derive(Clone, Debug, PartialEq, Eq)]
-pub struct Difference {
-    pub place: usize,
-    pub about: About,
-}
-
-#[derive(Clone, Debug, PartialEq, Eq)]
-pub enum About {
-    Answer(Box<Answered>),
-    Sums(String),
-}
-
-/// A call of the dialogue, or the list or the room after a booking.
-#[derive(Clone, Debug, PartialEq, Eq)]
-pub struct Answered {
-    pub call: Call,
-    pub expected: Said,
-    pub answered: Said,
-}
+use crate::trial::answers::{About, Difference, Said, compared};
 
 /// Plays a dialogue up to the first difference.
 pub fn play<C: Calls>(
     dialogue: &Dialogue,
     tested: &mut C,
     figures: &mut Figures,
-) -> Option<Difference> {
+) -> Option<Difference<Call>> {
     let mut table = Table {
         manager: dialogue.manager,
         reading: Reading::of(dialogue.manager),
@@ -58,7 +38,7 @@ struct Table<'a, C> {
 }
 
 impl<C: Calls> Table<'_, C> {
-    fn turn(&mut self, call: &Call) -> Result<(), About> {
+    fn turn(&mut self, call: &Call) -> Result<(), About<Call>> {
         let answered = self.compare(call)?;
         let is_done = answered == Said::Number(0);
         match call {
@@ -75,21 +55,14 @@ impl<C: Calls> Table<'_, C> {
         Ok(())
     }
 
-    fn compare(&mut self, call: &Call) -> Result<Said, About> {
+    fn compare(&mut self, call: &Call) -> Result<Said, About<Call>> {
         let expected = ask(&mut self.reading, call);
         let answered = ask(self.tested, call);
         let edition = self.edition_of(call);
         let number = expected.number();
         self.figures
             .count(self.manager, edition, Sort::of(call), number);
-        if expected == answered {
-            return Ok(answered);
-        }
-        Err(About::Answer(Box::new(Answered {
-            call: call.clone(),
-            expected,
-            answered,
-        })))
+        compared(call, expected, answered)
     }
 
     fn edition_of(&self, call: &Call) -> u64 {
@@ -112,11 +85,11 @@ impl<C: Calls> Table<'_, C> {
     }
 
     /// Under edition 2 no offer of either manager has zero length.
-    fn hold_length(&self, answered: &Said) -> Result<(), About> {
+    fn hold_length(&self, answered: &Said) -> Result<(), About<Call>> {
         let edition = self.edition();
         match answered {
             Said::Offer(Dates([start, end, ..])) if edition == SECOND && start >= end => {
-                Err(About::Sums(format!("send {start},{end} has no length")))
+                Err(About::Claim(format!("send {start},{end} has no length")))
             }
             _ => Ok(()),
         }
@@ -142,7 +115,7 @@ impl<C: Calls> Table<'_, C> {
         request: Request,
         dates: Dates,
         is_done: bool,
-    ) -> Result<(), About> {
+    ) -> Result<(), About<Call>> {
         let listed = self.compare(&Call::List)?;
         let room = match self.manager {
             Manager::Free => self.compare(&Call::Room)?,
@@ -163,13 +136,13 @@ impl<C: Calls> Table<'_, C> {
         dates: Dates,
         listed: &Said,
         room: &Said,
-    ) -> Result<(), About> {
+    ) -> Result<(), About<Call>> {
         let (Some(sums), Said::Listed(listed), Said::Room(room)) = (&mut self.sums, listed, room)
         else {
             return Ok(());
         };
-        sums.book(request.load.size, dates).map_err(About::Sums)?;
-        sums.see(listed, *room).map_err(About::Sums)?;
+        sums.book(request.load.size, dates).map_err(About::Claim)?;
+        sums.see(listed, *room).map_err(About::Claim)?;
         self.figures.count_sums(self.edition());
         Ok(())
     }

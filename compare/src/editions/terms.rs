@@ -1,8 +1,10 @@
-//! What is called and what is answered, in readable form too.
+//! What is called, in readable form too.
 
 use std::fmt;
 
-use crate::frames::{Dates, RatedOpening, Request, Span, Window};
+use crate::frames::{Dates, RatedOpening, Request, Window};
+use crate::trial::Spoken;
+use crate::trial::words::{Asked, Sent, Spans};
 
 /// The editions there are.
 pub const FIRST: u64 = 1;
@@ -37,24 +39,6 @@ pub enum Call {
     Edition(u64),
 }
 
-/// What a call answers: a number alone, or what goes with a 0.
-#[derive(Clone, Debug, PartialEq, Eq)]
-pub enum Said {
-    Number(u8),
-    Offer(Dates),
-    Listed(Vec<Span>),
-    Room(i64),
-}
-
-impl Said {
-    pub fn number(&self) -> u8 {
-        match self {
-            Said::Number(number) => *number,
-            _ => 0,
-        }
-    }
-}
-
 /// All calls of a dialogue are made to one manager.
 #[derive(Clone, Debug, PartialEq, Eq)]
 pub struct Dialogue {
@@ -62,42 +46,25 @@ pub struct Dialogue {
     pub calls: Vec<Call>,
 }
 
+impl Spoken for Dialogue {
+    type Call = Call;
+    const CLAIMED: &'static str = "demand 3";
+
+    fn manager(&self) -> String {
+        self.manager.to_string()
+    }
+
+    fn calls(&self) -> &Vec<Call> {
+        &self.calls
+    }
+
+    fn calls_mut(&mut self) -> &mut Vec<Call> {
+        &mut self.calls
+    }
+}
+
 // ---------------------------------------------------------------------------
 // In readable form
-
-struct Spans<'a>(&'a [Span]);
-
-impl fmt::Display for Spans<'_> {
-    fn fmt(&self, text: &mut fmt::Formatter) -> fmt::Result {
-        if self.0.is_empty() {
-            return write!(text, "none");
-        }
-        for (place, Span { start, end, value }) in self.0.iter().enumerate() {
-            let comma = if place == 0 { "" } else { ", " };
-            write!(text, "{comma}[{start},{end}) {value}")?;
-        }
-        Ok(())
-    }
-}
-
-struct Sent(Dates);
-
-impl fmt::Display for Sent {
-    fn fmt(&self, text: &mut fmt::Formatter) -> fmt::Result {
-        let Dates([start, end, from, to]) = self.0;
-        write!(text, "send {start},{end}, receive {from},{to}")
-    }
-}
-
-struct Asked(Request);
-
-impl fmt::Display for Asked {
-    fn fmt(&self, text: &mut fmt::Formatter) -> fmt::Result {
-        let Request { time, load } = self.0;
-        let (size, priority) = (load.size, load.priority);
-        write!(text, "at {time}, size {size}, priority {priority}")
-    }
-}
 
 impl fmt::Display for Manager {
     fn fmt(&self, text: &mut fmt::Formatter) -> fmt::Result {
@@ -131,17 +98,6 @@ impl fmt::Display for Call {
             Call::List => write!(text, "list"),
             Call::Room => write!(text, "room"),
             Call::Edition(edition) => write!(text, "edition {edition} written into the record"),
-        }
-    }
-}
-
-impl fmt::Display for Said {
-    fn fmt(&self, text: &mut fmt::Formatter) -> fmt::Result {
-        match self {
-            Said::Number(number) => write!(text, "{number}"),
-            Said::Offer(dates) => write!(text, "0, {}", Sent(*dates)),
-            Said::Listed(listed) => write!(text, "0, {}", Spans(listed)),
-            Said::Room(room) => write!(text, "0, room {room}"),
         }
     }
 }

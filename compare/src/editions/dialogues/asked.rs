@@ -37,19 +37,6 @@ pub fn every_request(record: &Record) -> Vec<Request> {
     exhaustive::requests(record.window, total + 2, priorities)
 }
 
-/// A request with a number outside its limits, or two.
-pub fn wrong_request(rng: &mut Rng, record: &Record) -> Request {
-    let mut request = request(rng, record);
-    for _ in 0..rng.between(1, 2) {
-        match rng.below(3) {
-            0 => request.time = rng.pick(&[-1, MAX_DATE + 1, i64::MAX, i64::MIN]),
-            1 => request.load.size = rng.pick(&[0, -1, MAX_SIZE + 1, i64::MAX, i64::MIN]),
-            _ => request.load.priority = rng.pick(&[128, 129, 200, 255]),
-        }
-    }
-    request
-}
-
 /// A request for ticks strictly inside a listed segment, for the exact capacity
 /// of a few of them: each booking of one makes the list longer.
 pub fn inner_request(rng: &mut Rng, record: &Record) -> Option<Request> {

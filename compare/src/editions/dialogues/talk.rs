@@ -7,9 +7,9 @@ use crate::editions::reading::Reading;
 use crate::editions::reading::record::Record;
 use crate::editions::terms::{Call, Dialogue, FIRST, Manager, Opening, SECOND};
 use crate::frames::{Dates, Request};
-use crate::generate::openings::other_number;
 use crate::generate::rng::Rng;
 use crate::limits::MAX_LISTED;
+use crate::trial::altered;
 use contacts::Scale;
 
 /// So many bookings fill a list of 64, with some that are not offered.
@@ -172,16 +172,11 @@ impl<'a> Talk<'a> {
     /// A true offer with one date wrong.
     fn book_beside(&mut self) {
         let request = self.request();
-        let Some(Dates(mut dates)) = self.offered(request) else {
-            return self.ask(Call::Book(request, Dates([0; 4])));
+        let stated = match self.offered(request) {
+            Some(offered) => altered::dates(self.rng, offered),
+            None => Dates([0; 4]),
         };
-        let place = self.rng.below(4);
-        dates[place] = match self.rng.below(6) {
-            0 => other_number(self.rng, dates[place]),
-            1..4 => dates[place] - 1,
-            _ => dates[place] + 1,
-        };
-        self.ask(Call::Book(request, Dates(dates)));
+        self.ask(Call::Book(request, stated));
     }
 
     /// An offer from before.
@@ -197,25 +192,19 @@ impl<'a> Talk<'a> {
 
     /// A true offer's dates for another bundle or time.
     fn book_otherwise(&mut self) {
-        let mut request = self.request();
+        let request = self.request();
         let Some(dates) = self.offered(request) else {
             return self.dry_run();
         };
-        match self.rng.below(5) {
-            0 => request.time -= 1,
-            1 => request.time += 1,
-            2 => request.load.size -= 1,
-            3 => request.load.size += 1,
-            _ => request.load.priority ^= 1,
-        }
+        let request = altered::request(self.rng, request);
         self.ask(Call::Book(request, dates));
     }
 
     /// Outside the limits: 2, also where the dates are no offer's.
     fn ask_wrongly(&mut self) {
-        let record = self.reading.record.as_ref().expect("opened at first");
-        let request = asked::wrong_request(self.rng, record);
-        let start = record.window.start;
+        let request = self.request();
+        let request = altered::outside(self.rng, request);
+        let start = self.record().window.start;
         match self.rng.once_in(2) {
             true => self.ask(Call::DryRun(request)),
             false => self.ask(Call::Book(request, Dates([start; 4]))),

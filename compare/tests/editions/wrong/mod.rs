@@ -11,6 +11,7 @@ use oracle::editions::reading::record::{Record, Send};
 use oracle::editions::terms::{Manager, Opening};
 use oracle::editions::{Settings, check};
 use oracle::frames::{Dates, Request, Span};
+use oracle::trial::Counted;
 
 pub use flaw::Flaw;
 
