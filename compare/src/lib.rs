@@ -6,8 +6,9 @@
 //! original's calls ([`calls`]), answer, line. Above that stand the dialogues
 //! that are compared ([`generate`]) and the comparison itself ([`drive`]), and
 //! document 02's R-8, which is held against any program's answers without the
-//! original's ([`earliest`]). R-5, which has no original under edition 2, is read
-//! from the documents and held against a library's calls ([`editions`]).
+//! original's ([`earliest`])., which have no original under edition 2
+//! and in mode 2, are read from the documents and held against a library's calls
+//! ([`editions`], [`modes`], over [`trial`]).
 
 /// The original, built unchanged by `build.rs`.
 pub extern crate asabr;
@@ -21,6 +22,7 @@ pub mod free;
 pub mod generate;
 pub mod guard;
 pub mod limits;
+pub mod modes;
 pub mod poly;
 pub mod priority;
 pub mod queue;

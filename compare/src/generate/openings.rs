@@ -149,7 +149,7 @@ pub fn delay(rng: &mut Rng) -> i64 {
 }
 
 /// Delays that need not cover the window, in any order.
-fn loose_delays(rng: &mut Rng, window: Window) -> Vec<Span> {
+pub fn loose_delays(rng: &mut Rng, window: Window) -> Vec<Span> {
     if rng.once_in(3) {
         return tiled(rng, window, MAX_DELAYS, |rng, _| delay(rng));
     }
@@ -459,7 +459,7 @@ fn spoil_rated(rng: &mut Rng, opening: &mut RatedOpening) {
     }
 }
 
-fn spoil_poly(rng: &mut Rng, opening: &mut PolyOpening) {
+pub fn spoil_poly(rng: &mut Rng, opening: &mut PolyOpening) {
     let power = rng.below(COEFFICIENTS);
     match rng.below(6) {
         0 => spoil_window(rng, &mut opening.window),

@@ -5,6 +5,7 @@
 pub mod altered;
 pub mod answers;
 pub mod program;
+pub mod scales;
 pub mod shrink;
 pub mod tally;
 pub mod words;

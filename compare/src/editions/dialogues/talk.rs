@@ -10,7 +10,7 @@ use crate::frames::{Dates, Request};
 use crate::generate::rng::Rng;
 use crate::limits::MAX_LISTED;
 use crate::trial::altered;
-use contacts::Scale;
+use crate::trial::scales::{self, Scale};
 
 /// So many bookings fill a list of 64, with some that are not offered.
 const FILLS: usize = 3 * MAX_LISTED;
@@ -94,7 +94,7 @@ impl<'a> Talk<'a> {
     // Openings
 
     fn open(&mut self) {
-        let scale = contacts::scale(self.rng);
+        let scale = scales::scale(self.rng);
         let opening = Opening {
             edition: self.editions.pick(self.rng),
             contact: contacts::contact(self.rng, scale),
@@ -109,7 +109,7 @@ impl<'a> Talk<'a> {
 
     /// A wrong edition over any contact, or a right one over a wrong contact.
     fn open_wrongly(&mut self) {
-        let scale = contacts::scale(self.rng);
+        let scale = scales::scale(self.rng);
         let mut contact = contacts::contact(self.rng, scale);
         let has_edition = self.editions == Editions::First || self.rng.once_in(2);
         if has_edition || self.rng.once_in(2) {

@@ -1,0 +1,90 @@
+//! Contacts that mostly open: windows of every scale, offsets near and far.
+
+use super::shapes;
+use crate::frames::{COEFFICIENTS, PolyOpening, Window};
+use crate::generate::openings::{delay, loose_delays, placed, tiled};
+use crate::generate::rng::Rng;
+use crate::limits::{MAX_DATE, MAX_DELAYS};
+use crate::modes::terms::Opening;
+use crate::trial::scales::{Scale, length};
+
+/// Of so many openings one has a polynomial at the range rule's limit.
+const LIMIT_SHARE: usize = 8;
+
+pub fn opening(rng: &mut Rng, mode: u64, scale: Scale) -> Opening {
+    if scale != Scale::Roomy && rng.once_in(LIMIT_SHARE) {
+        return at_limit(rng, mode, scale);
+    }
+    let window = window(rng, scale);
+    let offset = offset(rng, window);
+    let mut opening = bare(rng, mode, window, offset);
+    let shape = shapes::shape(rng, window.end - window.start, scale);
+    shapes::settle(rng, &mut opening, shape);
+    opening
+}
+
+/// Short distances most: only there is a single unit more seen.
+fn at_limit(rng: &mut Rng, mode: u64, scale: Scale) -> Opening {
+    let (window, offset) = match rng.below(3) {
+        0 => {
+            let window = window(rng, scale);
+            (window, offset(rng, window))
+        }
+        1 => beside(rng, 40),
+        _ => beside(rng, 2),
+    };
+    let mut opening = bare(rng, mode, window, offset);
+    shapes::to_edge(rng, &mut opening);
+    opening
+}
+
+/// A window of up to so many ticks with its offset at one of its ends, or
+/// inside.
+fn beside(rng: &mut Rng, most: i64) -> (Window, i64) {
+    let length = rng.between(1, most);
+    let window = placed(rng, length);
+    let Window { start, end } = window;
+    let inside = rng.between(start, end);
+    (window, rng.pick(&[start, end, inside]))
+}
+
+fn bare(rng: &mut Rng, mode: u64, window: Window, offset: i64) -> Opening {
+    Opening {
+        mode,
+        contact: PolyOpening {
+            window,
+            offset,
+            coefficients: [0; COEFFICIENTS],
+            delays: delays(rng, window),
+        },
+    }
+}
+
+fn window(rng: &mut Rng, scale: Scale) -> Window {
+    let length = length(rng, scale);
+    placed(rng, length)
+}
+
+/// Mostly such as cover the window: where nothing is found, nothing is booked.
+fn delays(rng: &mut Rng, window: Window) -> Vec<crate::frames::Span> {
+    match rng.once_in(3) {
+        true => loose_delays(rng, window),
+        false => tiled(rng, window, MAX_DELAYS, |rng, _| delay(rng)),
+    }
+}
+
+fn offset(rng: &mut Rng, window: Window) -> i64 {
+    let Window { start, end } = window;
+    let offset = match rng.below(14) {
+        0..4 => start,
+        4 => end,
+        5..7 => rng.between(start, end),
+        7..9 => rng.between(start - 5, end + 5),
+        9 => 0,
+        10 => rng.between(0, MAX_DATE),
+        11 => MAX_DATE,
+        12 => start - rng.any_scale(MAX_DATE),
+        _ => end + rng.any_scale(MAX_DATE),
+    };
+    offset.clamp(0, MAX_DATE)
+}

@@ -1,0 +1,268 @@
+//! One dialogue, made along with the reading, so that what is offered can be
+//! booked.
+
+use super::{Modes, asked, contacts, wrong};
+use crate::frames::{Dates, Request};
+use crate::generate::rng::Rng;
+use crate::limits::MAX_LISTED;
+use crate::modes::calls::{Calls, ask};
+use crate::modes::reading::Reading;
+use crate::modes::reading::record::Record;
+use crate::modes::terms::{Call, Dialogue, EXACT, Field, Opening, PORTED};
+use crate::trial::altered;
+use crate::trial::scales::{self, Scale};
+
+/// So many bookings fill a list of 64, with some that are not offered.
+const FILLS: usize = 3 * MAX_LISTED;
+const TRIES: usize = 4;
+
+pub struct Talk<'a> {
+    rng: &'a mut Rng,
+    modes: Modes,
+    reading: Reading,
+    dialogue: Dialogue,
+    /// What was offered so far, still good or not.
+    offers: Vec<(Request, Dates)>,
+}
+
+impl<'a> Talk<'a> {
+    pub fn of(rng: &'a mut Rng, modes: Modes) -> Self {
+        Talk {
+            rng,
+            modes,
+            reading: Reading::default(),
+            dialogue: Dialogue::default(),
+            offers: Vec::new(),
+        }
+    }
+
+    pub fn whole(mut self) -> Dialogue {
+        while self.rng.once_in(3) {
+            self.open_wrongly();
+        }
+        self.open();
+        for _ in 0..self.rng.between(2, 24) {
+            self.turn();
+        }
+        self.ask(Call::List);
+        self.ask_everything();
+        self.dialogue
+    }
+
+    fn ask(&mut self, call: Call) {
+        ask(&mut self.reading, &call);
+        self.dialogue.calls.push(call);
+    }
+
+    fn record(&self) -> &Record {
+        self.reading.record.as_ref().expect("opened at first")
+    }
+
+    fn request(&mut self) -> Request {
+        let record = self.reading.record.as_ref().expect("opened at first");
+        asked::request(self.rng, record)
+    }
+
+    /// What is offered, and kept for later.
+    fn offered(&mut self, request: Request) -> Option<Dates> {
+        let dates = self.reading.dry_run(request).ok()?;
+        self.offers.push((request, dates));
+        Some(dates)
+    }
+
+    fn turn(&mut self) {
+        match self.rng.below(48) {
+            0..13 => self.book(),
+            13..30 => self.dry_run(),
+            30..33 => self.book_beside(),
+            33..35 => self.book_late(),
+            35..37 => self.book_otherwise(),
+            37..39 => self.ask_wrongly(),
+            39..41 => self.ask(Call::List),
+            41..43 => self.damage(),
+            43..45 => self.change(),
+            45..47 => self.open_wrongly(),
+            _ => self.open(),
+        }
+    }
+
+    // -----------------------------------------------------------------------
+    // Openings
+
+    /// The range rule's limit may be passed; another is tried then.
+    fn open(&mut self) {
+        let scale = scales::scale(self.rng);
+        loop {
+            let mode = self.modes.pick(self.rng);
+            let opening = contacts::opening(self.rng, mode, scale);
+            let said = ask(&mut self.reading, &Call::Open(opening.clone()));
+            self.dialogue.calls.push(Call::Open(opening));
+            if said.number() == 0 {
+                break;
+            }
+        }
+        self.offers.clear();
+        let is_long = scale == Scale::Limit && self.rng.once_in(12);
+        if scale == Scale::Roomy || is_long {
+            self.fill();
+        }
+    }
+
+    /// A wrong mode over any contact, or a right one over a wrong contact.
+    fn open_wrongly(&mut self) {
+        let has_mode = self.modes == Modes::Ported || !self.rng.once_in(3);
+        let mode = self.modes.pick(self.rng);
+        let scale = scales::scale(self.rng);
+        let Opening { mut contact, .. } = contacts::opening(self.rng, mode, scale);
+        if has_mode || self.rng.once_in(2) {
+            wrong::spoil(self.rng, &mut contact);
+        }
+        let mode = match has_mode {
+            true => mode,
+            false => wrong::mode(self.rng),
+        };
+        // Faults may cancel, and then the record is a new one.
+        self.ask(Call::Open(Opening { mode, contact }));
+    }
+
+    /// Up to 64 listed segments, and on to the refusal of a 65th.
+    fn fill(&mut self) {
+        for _ in 0..FILLS {
+            let record = self.reading.record.as_ref().expect("opened at first");
+            let Some(request) = asked::inner_request(self.rng, record) else {
+                return;
+            };
+            let is_full = record.list.len() >= MAX_LISTED;
+            self.book_this(request);
+            if is_full && self.rng.once_in(6) {
+                return;
+            }
+        }
+    }
+
+    // -----------------------------------------------------------------------
+    // Dry runs and bookings
+
+    fn dry_run(&mut self) {
+        let request = self.request();
+        self.offered(request);
+        self.ask(Call::DryRun(request));
+    }
+
+    /// A few are looked at, as most of what is asked at random is not offered.
+    fn book(&mut self) {
+        let mut request = self.request();
+        for _ in 0..TRIES {
+            if self.reading.dry_run(request).is_ok() {
+                break;
+            }
+            request = self.request();
+        }
+        self.book_this(request);
+    }
+
+    /// What is offered, or the dry run that says that nothing is.
+    fn book_this(&mut self, request: Request) {
+        match self.offered(request) {
+            Some(dates) => self.ask(Call::Book(request, dates)),
+            None => self.ask(Call::DryRun(request)),
+        }
+    }
+
+    /// A true offer with one date wrong.
+    fn book_beside(&mut self) {
+        let request = self.request();
+        let stated = match self.offered(request) {
+            Some(offered) => altered::dates(self.rng, offered),
+            None => Dates([0; 4]),
+        };
+        self.ask(Call::Book(request, stated));
+    }
+
+    /// An offer from before.
+    fn book_late(&mut self) {
+        match self.offers.is_empty() {
+            true => self.dry_run(),
+            false => {
+                let (request, dates) = self.rng.pick(&self.offers);
+                self.ask(Call::Book(request, dates));
+            }
+        }
+    }
+
+    /// A true offer's dates for another bundle or time.
+    fn book_otherwise(&mut self) {
+        let request = self.request();
+        let Some(dates) = self.offered(request) else {
+            return self.dry_run();
+        };
+        let request = altered::request(self.rng, request);
+        self.ask(Call::Book(request, dates));
+    }
+
+    /// Outside the limits: 2, also where the dates are no offer's.
+    fn ask_wrongly(&mut self) {
+        let request = self.request();
+        let request = altered::outside(self.rng, request);
+        match self.rng.once_in(2) {
+            true => self.ask(Call::DryRun(request)),
+            false => self.ask(Call::Book(request, Dates([0; 4]))),
+        }
+    }
+
+    /// Every time and size, where there are few.
+    fn ask_everything(&mut self) {
+        for request in asked::every_request(self.record()) {
+            self.ask(Call::DryRun(request));
+        }
+    }
+
+    // -----------------------------------------------------------------------
+    // Numbers written into records
+
+    /// A mode that is none.
+    fn damage(&mut self) {
+        match self.modes {
+            Modes::Ported => self.dry_run(),
+            Modes::Both => {
+                let mode = wrong::mode(self.rng);
+                self.write(Field::Mode(mode));
+            }
+        }
+    }
+
+    /// The other mode, or another number of the polynomial.
+    fn change(&mut self) {
+        if self.modes == Modes::Ported {
+            return self.dry_run();
+        }
+        let opening = &self.record().opening;
+        let other = match opening.mode == EXACT {
+            true => PORTED,
+            false => EXACT,
+        };
+        let opening = opening.clone();
+        let field = match self.rng.once_in(2) {
+            true => Field::Mode(other),
+            false => wrong::number(self.rng, &opening),
+        };
+        self.write(field);
+    }
+
+    /// A record that breaks its rules by it refuses every call with 1, bundles
+    /// outside their limits too, and is as it was when its own is put back.
+    fn write(&mut self, field: Field) {
+        let request = self.request();
+        let offer = self.offered(request).unwrap_or(Dates([0; 4]));
+        let old = wrong::old(field, &self.record().opening);
+        self.ask(Call::Write(field));
+        self.ask(Call::DryRun(request));
+        self.ask(Call::Book(request, offer));
+        if self.record().test().is_err() {
+            let outside = altered::outside(self.rng, request);
+            self.ask(Call::DryRun(outside));
+            self.ask(Call::List);
+            self.ask(Call::Write(old));
+        }
+    }
+}
