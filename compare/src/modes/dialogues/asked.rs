@@ -79,8 +79,9 @@ fn size(rng: &mut Rng, record: &Record, time: i64) -> i64 {
         2 => total + rng.between(-1, 2),
         3 => rng.any_scale(MAX_SIZE),
         4 => rng.between(1, total.clamp(1, MAX_SIZE)),
-        5..9 => to_listed_end(rng, record, time) + rng.between(-1, 1),
-        9..15 => few_ticks(rng, record, time) + rng.between(-1, 1),
+        5..8 => to_listed_end(record, time) + rng.between(-1, 1),
+        8..13 => to_middle(rng, record, time) + rng.pick(&[0, 0, 0, -1, 1]),
+        13..17 => few_ticks(rng, record, time) + rng.between(-1, 1),
         _ => {
             let from = listed(rng, record).start;
             few_ticks(rng, record, from) + rng.between(-1, 1)
@@ -92,11 +93,38 @@ fn size(rng: &mut Rng, record: &Record, time: i64) -> i64 {
     }
 }
 
-/// From the asked time to the end of a segment that is not over by then.
-fn to_listed_end(rng: &mut Rng, record: &Record, time: i64) -> i64 {
-    let left = record.list.iter().find(|span| span.end > time).copied();
-    let span = left.unwrap_or_else(|| listed(rng, record));
-    carried(record, span.start.max(time), span.end)
+/// The first segment that is not over by the asked time, from then on.
+fn left(record: &Record, time: i64) -> Option<Window> {
+    let span = record.list.iter().find(|span| span.end > time)?;
+    Some(Window {
+        start: span.start.max(time),
+        end: span.end,
+    })
+}
+
+fn to_listed_end(record: &Record, time: i64) -> i64 {
+    left(record, time).map_or(1, |left| carried(record, left.start, left.end))
+}
+
+/// To one of the dates at which the end search looks first, so that it stops
+/// there on equality, or near it.
+fn to_middle(rng: &mut Rng, record: &Record, time: i64) -> i64 {
+    let Some(Window { start, end }) = left(record, time) else {
+        return 1;
+    };
+    let (mut low, mut high) = (start, end);
+    let mut middle = low + (high - low) / 2;
+    for _ in 0..rng.below(4) {
+        match rng.once_in(2) {
+            true => low = middle + 1,
+            false => high = middle - 1,
+        }
+        if low > high {
+            break;
+        }
+        middle = low + (high - low) / 2;
+    }
+    carried(record, start, middle)
 }
 
 /// Mostly a handful; over a long window sometimes many.

@@ -9,7 +9,7 @@ use crate::modes::terms::Opening;
 use crate::trial::scales::{Scale, length};
 
 /// Of so many openings one has a polynomial at the range rule's limit.
-const LIMIT_SHARE: usize = 8;
+const LIMIT_SHARE: usize = 6;
 
 pub fn opening(rng: &mut Rng, mode: u64, scale: Scale) -> Opening {
     if scale != Scale::Roomy && rng.once_in(LIMIT_SHARE) {
@@ -23,15 +23,15 @@ pub fn opening(rng: &mut Rng, mode: u64, scale: Scale) -> Opening {
     opening
 }
 
-/// Short distances most: only there is a single unit more seen.
+/// Short distances most: only beside the offset is a single unit more seen.
 fn at_limit(rng: &mut Rng, mode: u64, scale: Scale) -> Opening {
-    let (window, offset) = match rng.below(3) {
+    let (window, offset) = match rng.below(4) {
         0 => {
             let window = window(rng, scale);
             (window, offset(rng, window))
         }
         1 => beside(rng, 40),
-        _ => beside(rng, 2),
+        _ => beside(rng, 1),
     };
     let mut opening = bare(rng, mode, window, offset);
     shapes::to_edge(rng, &mut opening);

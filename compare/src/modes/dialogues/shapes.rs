@@ -18,15 +18,17 @@ const LONG: i64 = 1 << 13;
 
 pub fn shape(rng: &mut Rng, length: i64, scale: Scale) -> Shape {
     let length = length.min(LONG);
-    let shape = match rng.below(16) {
+    let shape = match rng.below(20) {
         0..2 => constant(rng),
         2..5 => rising(rng),
         // So that the list gets long.
         _ if scale == Scale::Roomy => [rng.between(1, 9), rng.between(0, 1), 0, 0],
         5..7 => falling(rng, length),
         7 => hill(rng, length),
-        8 => return wave(rng, length),
-        9..11 => large(rng),
+        8..10 => return wave(rng, length),
+        10..14 => dip(rng, length),
+        14..16 => return touching(rng, length),
+        16 => large(rng),
         _ => small(rng),
     };
     shape.map(i128::from)
@@ -65,17 +67,41 @@ fn hill(rng: &mut Rng, length: i64) -> [i64; COEFFICIENTS] {
     [rng.between(-2, 4), rng.between(1, length + 2), -1, 0]
 }
 
-/// A cubic with three zeros about the window, either way up.
+/// A cubic with three zeros about the window, either way up; twelvefold, so that
+/// the capacity is whole and meets sizes, or not.
 fn wave(rng: &mut Rng, length: i64) -> Shape {
     let [one, two, three] = [(); 3].map(|()| i128::from(rng.between(-2, length + 2)));
-    let sign = rng.pick(&[1, -1]);
+    let factor = rng.pick(&[1, -1, 12, 12, -12, -12]);
     let shape = [
         -one * two * three,
         one * two + one * three + two * three,
         -(one + two + three),
         1,
     ];
-    shape.map(|coefficient| sign * coefficient)
+    shape.map(|coefficient| factor * coefficient)
+}
+
+/// (t - p) (t - q): below zero only between them, so that capacity falls for a
+/// while and then rises again.
+fn dip(rng: &mut Rng, length: i64) -> [i64; COEFFICIENTS] {
+    let factor = rng.pick(&[1, 1, 2, 6]);
+    let one = rng.between(0, length);
+    let two = rng.between(one, length);
+    [factor * one * two, -factor * (one + two), factor, 0]
+}
+
+/// (t - p)^2 and (t - p)^3: about p a tick carries a third or a quarter. The end
+/// search looks at the middle first.
+fn touching(rng: &mut Rng, length: i64) -> Shape {
+    let zero = match rng.once_in(2) {
+        true => rng.between(0, length),
+        false => length / 2 - rng.between(0, 2),
+    };
+    let zero = i128::from(zero);
+    match rng.once_in(2) {
+        true => [zero * zero, -2 * zero, 1, 0],
+        false => [-zero * zero * zero, 3 * zero * zero, -3 * zero, 1],
+    }
 }
 
 fn small(rng: &mut Rng) -> [i64; COEFFICIENTS] {
@@ -139,29 +165,39 @@ fn in_range(opening: &Opening) -> bool {
     refusal(opening) != Some(11)
 }
 
-/// Any coefficients, and one of them at the largest number that the range rule
-/// takes, one less, or one or two more.
+/// Any coefficients, one or two of them at the largest number that the range
+/// rule takes, and one a little more or less than it was.
 pub fn to_edge(rng: &mut Rng, opening: &mut Opening) {
     let sparse = rng.once_in(3);
     opening.contact.coefficients = match rng.once_in(2) {
         true => small(rng),
         false => large(rng),
     };
-    let edge = rng.below(COEFFICIENTS);
     for power in (0..COEFFICIENTS).rev() {
-        if power != edge && (sparse || !in_range_without(opening, power)) {
+        if sparse || !in_range_from(opening, power) {
             opening.contact.coefficients[power] = 0;
         }
     }
-    let number = largest(opening, edge) + rng.between(-1, 2);
-    opening.contact.coefficients[edge] = match rng.once_in(3) {
+    for _ in 0..2 {
+        enlarge(rng, opening);
+    }
+    let power = rng.below(COEFFICIENTS);
+    let coefficient = &mut opening.contact.coefficients[power];
+    *coefficient += coefficient.signum() * rng.pick(&[0, 0, 0, 1, 1, -1, 2]);
+}
+
+/// One coefficient as large as the others allow.
+fn enlarge(rng: &mut Rng, opening: &mut Opening) {
+    let power = rng.below(COEFFICIENTS);
+    let number = largest(opening, power);
+    opening.contact.coefficients[power] = match rng.once_in(3) {
         true => -number,
         false => number,
     };
 }
 
 /// Whether the coefficients from this power up are in range by themselves.
-fn in_range_without(opening: &Opening, power: usize) -> bool {
+fn in_range_from(opening: &Opening, power: usize) -> bool {
     let mut upper = opening.clone();
     upper.contact.coefficients[..power].fill(0);
     in_range(&upper)

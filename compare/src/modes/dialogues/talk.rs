@@ -102,8 +102,12 @@ impl<'a> Talk<'a> {
             }
         }
         self.offers.clear();
-        let is_long = scale == Scale::Limit && self.rng.once_in(12);
-        if scale == Scale::Roomy || is_long {
+        let fills = match scale {
+            Scale::Roomy => self.rng.once_in(2),
+            Scale::Limit => self.rng.once_in(24),
+            _ => false,
+        };
+        if fills {
             self.fill();
         }
     }
