@@ -15,6 +15,7 @@ use asabr::types::{DataRate, Date, Duration, TimeInterval};
 use howrekano::{DelaySegment, Interval, Manager, Offer, RateSegment, Record, Refusal, record};
 pub use oracle::asabr;
 
+pub mod doors;
 mod managers;
 
 /// A manager of the proved library behind the original's trait.

@@ -1,7 +1,7 @@
 //! Contacts that mostly open: windows of every scale, offsets near and far.
 
 use super::shapes;
-use crate::frames::{COEFFICIENTS, PolyOpening, Window};
+use crate::frames::{COEFFICIENTS, PolyOpening, Span, Window};
 use crate::generate::openings::{delay, loose_delays, placed, tiled};
 use crate::generate::rng::Rng;
 use crate::limits::{MAX_DATE, MAX_DELAYS};
@@ -66,7 +66,7 @@ fn window(rng: &mut Rng, scale: Scale) -> Window {
 }
 
 /// Mostly such as cover the window: where nothing is found, nothing is booked.
-fn delays(rng: &mut Rng, window: Window) -> Vec<crate::frames::Span> {
+fn delays(rng: &mut Rng, window: Window) -> Vec<Span> {
     match rng.once_in(3) {
         true => loose_delays(rng, window),
         false => tiled(rng, window, MAX_DELAYS, |rng, _| delay(rng)),

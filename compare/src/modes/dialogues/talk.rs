@@ -2,7 +2,7 @@
 //! booked.
 
 use super::{Modes, asked, contacts, wrong};
-use crate::frames::{Dates, Request};
+use crate::frames::{Dates, Load, Request};
 use crate::generate::rng::Rng;
 use crate::limits::MAX_LISTED;
 use crate::modes::calls::{Calls, ask};
@@ -78,8 +78,9 @@ impl<'a> Talk<'a> {
             33..35 => self.book_late(),
             35..37 => self.book_otherwise(),
             37..39 => self.ask_wrongly(),
-            39..41 => self.ask(Call::List),
-            41..43 => self.damage(),
+            39 => self.ask_anything(),
+            40..42 => self.ask(Call::List),
+            42 => self.damage(),
             43..45 => self.change(),
             45..47 => self.open_wrongly(),
             _ => self.open(),
@@ -211,6 +212,24 @@ impl<'a> Talk<'a> {
         match self.rng.once_in(2) {
             true => self.ask(Call::DryRun(request)),
             false => self.ask(Call::Book(request, Dates([0; 4]))),
+        }
+    }
+
+    /// Any 64 bits, in or outside the limits.
+    fn ask_anything(&mut self) {
+        let mut number = || self.rng.word() as i64;
+        let dates = Dates([(); 4].map(|()| number()));
+        let load = Load {
+            size: number(),
+            priority: number() as u8,
+        };
+        let request = Request {
+            time: number(),
+            load,
+        };
+        match self.rng.once_in(2) {
+            true => self.ask(Call::DryRun(request)),
+            false => self.ask(Call::Book(request, dates)),
         }
     }
 

@@ -27,7 +27,7 @@ fn is_date(number: i64) -> bool {
     (0..=MAX_DATE).contains(&number)
 }
 
-pub fn window_in_limits(window: Window) -> bool {
+fn window_in_limits(window: Window) -> bool {
     let Window { start, end } = window;
     is_date(start) && is_date(end) && start < end && end - start <= MAX_LENGTH
 }
