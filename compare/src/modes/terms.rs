@@ -86,7 +86,8 @@ impl fmt::Display for Opening {
         let (mode, delays) = (self.mode, Spans(delays));
         write!(
             text,
-            "mode {mode}, window [{start},{end}); offset {offset}, coefficients {c0},{c1},{c2},{c3}; delays {delays}",
+            "mode {mode}, window [{start},{end}); offset {offset}, \
+             coefficients {c0},{c1},{c2},{c3}; delays {delays}",
         )
     }
 }

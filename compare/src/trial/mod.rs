@@ -4,6 +4,7 @@
 
 pub mod altered;
 pub mod answers;
+pub mod offers;
 pub mod program;
 pub mod scales;
 pub mod shrink;

@@ -10,11 +10,11 @@ use crate::modes::reading::Reading;
 use crate::modes::reading::record::Record;
 use crate::modes::terms::{Call, Dialogue, EXACT, Field, Opening, PORTED};
 use crate::trial::altered;
+use crate::trial::offers::Offers;
 use crate::trial::scales::{self, Scale};
 
 /// So many bookings fill a list of 64, with some that are not offered.
 const FILLS: usize = 3 * MAX_LISTED;
-const TRIES: usize = 4;
 
 pub struct Talk<'a> {
     rng: &'a mut Rng,
@@ -23,6 +23,33 @@ pub struct Talk<'a> {
     dialogue: Dialogue,
     /// What was offered so far, still good or not.
     offers: Vec<(Request, Dates)>,
+}
+
+impl Offers for Talk<'_> {
+    fn rng(&mut self) -> &mut Rng {
+        self.rng
+    }
+
+    fn request(&mut self) -> Request {
+        let record = self.reading.record.as_ref().expect("opened at first");
+        asked::request(self.rng, record)
+    }
+
+    fn look(&mut self, request: Request) -> Option<Dates> {
+        self.reading.dry_run(request).ok()
+    }
+
+    fn known(&mut self) -> &mut Vec<(Request, Dates)> {
+        &mut self.offers
+    }
+
+    fn ask_dry_run(&mut self, request: Request) {
+        self.ask(Call::DryRun(request));
+    }
+
+    fn ask_booking(&mut self, request: Request, stated: Dates) {
+        self.ask(Call::Book(request, stated));
+    }
 }
 
 impl<'a> Talk<'a> {
@@ -58,18 +85,6 @@ impl<'a> Talk<'a> {
         self.reading.record.as_ref().expect("opened at first")
     }
 
-    fn request(&mut self) -> Request {
-        let record = self.reading.record.as_ref().expect("opened at first");
-        asked::request(self.rng, record)
-    }
-
-    /// What is offered, and kept for later.
-    fn offered(&mut self, request: Request) -> Option<Dates> {
-        let dates = self.reading.dry_run(request).ok()?;
-        self.offers.push((request, dates));
-        Some(dates)
-    }
-
     fn turn(&mut self) {
         match self.rng.below(48) {
             0..13 => self.book(),
@@ -77,7 +92,7 @@ impl<'a> Talk<'a> {
             30..33 => self.book_beside(),
             33..35 => self.book_late(),
             35..37 => self.book_otherwise(),
-            37..39 => self.ask_wrongly(),
+            37..39 => self.ask_outside(Dates([0; 4])),
             39 => self.ask_anything(),
             40..42 => self.ask(Call::List),
             42 => self.damage(),
@@ -146,74 +161,7 @@ impl<'a> Talk<'a> {
     }
 
     // -----------------------------------------------------------------------
-    // Dry runs and bookings
-
-    fn dry_run(&mut self) {
-        let request = self.request();
-        self.offered(request);
-        self.ask(Call::DryRun(request));
-    }
-
-    /// A few are looked at, as most of what is asked at random is not offered.
-    fn book(&mut self) {
-        let mut request = self.request();
-        for _ in 0..TRIES {
-            if self.reading.dry_run(request).is_ok() {
-                break;
-            }
-            request = self.request();
-        }
-        self.book_this(request);
-    }
-
-    /// What is offered, or the dry run that says that nothing is.
-    fn book_this(&mut self, request: Request) {
-        match self.offered(request) {
-            Some(dates) => self.ask(Call::Book(request, dates)),
-            None => self.ask(Call::DryRun(request)),
-        }
-    }
-
-    /// A true offer with one date wrong.
-    fn book_beside(&mut self) {
-        let request = self.request();
-        let stated = match self.offered(request) {
-            Some(offered) => altered::dates(self.rng, offered),
-            None => Dates([0; 4]),
-        };
-        self.ask(Call::Book(request, stated));
-    }
-
-    /// An offer from before.
-    fn book_late(&mut self) {
-        match self.offers.is_empty() {
-            true => self.dry_run(),
-            false => {
-                let (request, dates) = self.rng.pick(&self.offers);
-                self.ask(Call::Book(request, dates));
-            }
-        }
-    }
-
-    /// A true offer's dates for another bundle or time.
-    fn book_otherwise(&mut self) {
-        let request = self.request();
-        let Some(dates) = self.offered(request) else {
-            return self.dry_run();
-        };
-        let request = altered::request(self.rng, request);
-        self.ask(Call::Book(request, dates));
-    }
-
-    /// Outside the limits: 2, also where the dates are no offer's.
-    fn ask_wrongly(&mut self) {
-        let request = self.request();
-        let request = altered::outside(self.rng, request);
-        match self.rng.once_in(2) {
-            true => self.ask(Call::DryRun(request)),
-            false => self.ask(Call::Book(request, Dates([0; 4]))),
-        }
-    }
+    // Many dry runs
 
     /// Any 64 bits, in or outside the limits.
     fn ask_anything(&mut self) {

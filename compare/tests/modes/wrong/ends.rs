@@ -98,16 +98,22 @@ fn rounded_down(opening: &Opening, date: i64) -> Fraction {
 const FEW: i64 = 1_000;
 
 fn end(flaw: Flaw, record: &Record, span: Span, from: i64, size: i64) -> Option<i64> {
-    let size = match flaw == Flaw::Elevenfold && record.opening.mode == EXACT {
-        true => Fraction::of(11 * size, 12),
-        false => Fraction::whole(size),
+    let is_exact = record.opening.mode == EXACT;
+    let size = match flaw {
+        Flaw::Elevenfold if is_exact => Fraction::of(11 * size, 12),
+        Flaw::SizeOnefold if is_exact => Fraction::of(size, 12),
+        _ => Fraction::whole(size),
     };
     let high = match flaw {
         Flaw::ToWindowEnd => record.window().end,
         _ => span.end,
     };
     let carried = |date| capacity(flaw, record, from, date);
-    if from >= span.end || !suffices(flaw, carried(high), size) {
+    let in_all = match flaw {
+        Flaw::SufficesPorted => capacity(Flaw::PortedQuotients, record, from, high),
+        _ => carried(high),
+    };
+    if from >= span.end || !suffices(flaw, in_all, size) {
         return None;
     }
     match flaw {

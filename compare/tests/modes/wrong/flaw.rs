@@ -40,6 +40,10 @@ flaws! {
     // The end search
     /// Twelve times the capacity against eleven times the size.
     Elevenfold,
+    /// Twelve times the capacity against the size.
+    SizeOnefold,
+    /// What the stretch carries is the ported capacity, the rest is exact.
+    SufficesPorted,
     /// The upper bound is returned.
     ReturnsHigh,
     /// It does not stop on equality.
@@ -113,6 +117,8 @@ flaws! {
     // Bookings and lists
     /// A booking leaves a record of mode 1.
     Forgets,
+    /// A booking looks for its offer in mode 1.
+    BooksPorted,
     /// A booking answers 0 and leaves the record as it was.
     LeavesRecord,
     /// The right part begins a tick late.

@@ -9,7 +9,7 @@ use oracle::frames::{Dates, Request, Span};
 use oracle::modes::calls::Calls;
 use oracle::modes::dialogues::Modes;
 use oracle::modes::reading::record::{Record, Send};
-use oracle::modes::terms::{Field, Opening, PORTED};
+use oracle::modes::terms::{Field, Opening, PORTED, is_mode};
 use oracle::modes::{Settings, check};
 use oracle::trial::Counted;
 
@@ -32,6 +32,19 @@ impl Wrong {
         Ok(records::read(self.flaw, record))
     }
 
+    fn found_to_book(&self, request: Request) -> Result<(Send, Dates), u8> {
+        let mut booked = Wrong {
+            flaw: self.flaw,
+            record: self.record.clone(),
+        };
+        if let (Flaw::BooksPorted, Some(record)) = (self.flaw, &mut booked.record)
+            && is_mode(record.opening.mode)
+        {
+            record.opening.mode = PORTED;
+        }
+        booked.found(request)
+    }
+
     fn found(&self, request: Request) -> Result<(Send, Dates), u8> {
         let record = self.read()?;
         records::test_both(self.flaw, &record, request)?;
@@ -52,7 +65,7 @@ impl Calls for Wrong {
     }
 
     fn book(&mut self, request: Request, stated: Dates) -> Result<(), u8> {
-        let (send, dates) = self.found(request).map_err(|number| match number {
+        let (send, dates) = self.found_to_book(request).map_err(|number| match number {
             7 if self.flaw == Flaw::NotOfferedIsSeven => 7,
             7 | 8 => 9,
             _ => number,
