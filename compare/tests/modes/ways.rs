@@ -1,13 +1,14 @@
 //! The true integral in several ways: the antiderivative, Simpson's rule over
-//! each tick, and thin rectangles below and above it.
+//! each tick, R-6's twelvefold whole numbers, and thin rectangles below and above.
 
 use oracle::frames::{PolyOpening, Span, Window};
 use oracle::generate::openings::placed;
 use oracle::generate::rng::Rng;
+use oracle::modes::dialogues::{Dialogues, Modes};
 use oracle::modes::reading::capacity::Capacity;
 use oracle::modes::reading::fraction::Fraction;
 use oracle::modes::reading::opening::refusal;
-use oracle::modes::terms::{EXACT, Opening};
+use oracle::modes::terms::{Call, EXACT, Opening};
 use oracle::modes::ticks::Ticks;
 
 const POLYNOMIALS: usize = 3_000;
@@ -57,6 +58,78 @@ fn antiderivative_and_ticks_agree() {
     println!("{compared} capacities compared, {whole} of them whole");
     assert!(compared > 100_000 && whole < compared / 2);
 }
+
+// ---------------------------------------------------------------------------
+// R-6's whole numbers
+
+/// "twelve times the integral is a whole number for four coefficients": from the
+/// offset to a distance.
+fn twelvefold(opening: &Opening, distance: i128) -> i128 {
+    let [c0, c1, c2, c3] = opening.contact.coefficients.map(i128::from);
+    (((3 * c3 * distance + 4 * c2) * distance + 6 * c1) * distance + 12 * c0) * distance
+}
+
+/// The range rule over the twelvefold quotients. The numbers are in their limits.
+fn is_in_range(opening: &Opening) -> bool {
+    let Window { start, end } = opening.contact.window;
+    let from_offset = |date: i64| date.abs_diff(opening.contact.offset);
+    let distance = i128::from(from_offset(start).max(from_offset(end)));
+    let mut value = 0;
+    for (coefficient, fold) in opening.contact.coefficients.iter().zip([12, 6, 4, 3]).rev() {
+        value = value * distance + fold * i128::from(*coefficient).abs();
+        if value > 1 << 61 {
+            return false;
+        }
+    }
+    value * distance <= 1 << 61
+}
+
+/// The openings in mode 2 of many dialogues, those at the range rule's limit
+/// among them.
+fn openings(dialogues: usize) -> Vec<Opening> {
+    let mut source = Dialogues::of(64, Modes::Both);
+    let calls = (0..dialogues).flat_map(|_| source.dialogue().calls);
+    let of_mode_2 = calls.filter_map(|call| match call {
+        Call::Open(opening) if opening.mode == EXACT => Some(opening),
+        _ => None,
+    });
+    of_mode_2.collect()
+}
+
+#[test]
+fn twelvefold_whole_numbers_say_the_same() {
+    let mut rng = Rng::new(64);
+    let (mut refused, mut compared) = (0, 0);
+    for opening in openings(20_000) {
+        let mut flat = opening.clone();
+        flat.contact.coefficients = [0; 4];
+        let in_limits = |number: &i64| (-(1 << 61)..=1 << 61).contains(number);
+        if refusal(&flat).is_some() || !opening.contact.coefficients.iter().all(in_limits) {
+            continue;
+        }
+        assert_eq!(
+            refusal(&opening).is_none(),
+            is_in_range(&opening),
+            "{opening}"
+        );
+        if !is_in_range(&opening) {
+            refused += 1;
+            continue;
+        }
+        let Window { start, end } = opening.contact.window;
+        let to_date = |date| twelvefold(&opening, i128::from(date - opening.contact.offset));
+        let (from, to) = (rng.between(start, end), rng.between(start, end));
+        let carried = Capacity::of(&opening).between(from, to);
+        let whole = Fraction::whole(to_date(to) - to_date(from));
+        assert_eq!(Fraction::whole(12) * carried, whole, "{opening}");
+        compared += 1;
+    }
+    println!("{compared} openings compared, {refused} refused");
+    assert!(compared > 10_000 && refused > 1_000);
+}
+
+// ---------------------------------------------------------------------------
+// Rectangles
 
 /// So many rectangles a tick.
 const THIN: i64 = 16;
