@@ -1,5 +1,5 @@
-/* Cases 1, 5, 8, 10 and 11 of document 01, 02's room and both editions of the end rule, from C, by both doors, on the library as the kit
-   compiles it for x86-64. */
+/* Cases 1, 5, 8, 10 and 11 of document 01, 02's room, both editions of the end rule and both modes of the polynomial, from C, by both doors,
+   on the library as the kit compiles it for x86-64. */
 #include "howrekano.h"
 
 int printf(const char *, ...);
@@ -19,9 +19,10 @@ static void list(const char *what, int number, const hk_list *l)
 
 static const uint64_t *words(const hk_segment *s) { return (const uint64_t *)s; }
 
-/* what a kept call takes of a contact, and of a list */
+/* what a kept call takes of a contact, of a list, and of a polynomial record */
 #define CONTACT(m) (m)->contact.window, words((m)->contact.rates), (m)->contact.rate_count, words((m)->contact.delays), (m)->contact.delay_count
 #define LIST(m) (uint64_t *)(m)->list.segments, &(m)->list.count
+#define POLYNOMIAL(m) (m)->window, (m)->polynome.coefficients, (m)->polynome.offset, words((m)->delays), (m)->delay_count
 
 /* a dry run and the booking of what it offers, by the kept door, and the room that is left */
 static void free_booked(hk_free *m, uint64_t at, hk_bundle b)
@@ -39,6 +40,14 @@ static void priority_booked(hk_priority *m, uint64_t at, hk_bundle b)
     show("kept offer", o);
     int n = hk_priority_book_kept(CONTACT(m), LIST(m), at, b, (const uint64_t *)&o.dates, &m->contact.choices);
     list("kept booking", n, &m->list);
+}
+
+static void polynomial_booked(hk_polynomial *m, uint64_t at, hk_bundle b)
+{
+    hk_offer o = hk_polynomial_dry_run_kept(POLYNOMIAL(m), words(m->free.segments), m->free.count, at, b, &m->choices);
+    show("kept offer", o);
+    int n = hk_polynomial_book_kept(POLYNOMIAL(m), (uint64_t *)m->free.segments, &m->free.count, at, b, (const uint64_t *)&o.dates, &m->choices);
+    list("kept booking", n, &m->free);
 }
 
 static void room(const char *what, const hk_free *m)
@@ -101,13 +110,14 @@ static void edition(hk_contact opening, uint64_t number)
     printf("damaged: %d %d\n", hk_free_dry_run(&m, 3, b).number, hk_priority_dry_run(&p, 3, b).number);
 }
 
-/* 2 goes before 3: no edition and no window */
+/* 2 goes before 3: no edition or mode, and no window */
 static void left_zero(void)
 {
     hk_contact opening = {{0}};
-    printf("left zero: %d %d\n", hk_free_open(&opening).number, hk_priority_open(&opening).number);
-    opening.choices.edition = 1;
-    printf("but for the edition: %d %d\n", hk_free_open(&opening).number, hk_priority_open(&opening).number);
+    hk_polynomial_opening line = {{0}};
+    printf("left zero: %d %d %d\n", hk_free_open(&opening).number, hk_priority_open(&opening).number, hk_polynomial_open(&line).number);
+    opening.choices.edition = line.choices.mode = 1;
+    printf("but for the choices: %d %d %d\n", hk_free_open(&opening).number, hk_priority_open(&opening).number, hk_polynomial_open(&line).number);
 }
 
 static void priority(const hk_contact *opening)
@@ -118,16 +128,27 @@ static void priority(const hk_contact *opening)
     priority_booked(&opened.manager, 0, (hk_bundle){30, 2});
 }
 
-static void polynomial(const hk_contact *c)
+/* case 10 by both doors: a rate of 10, then a line with slope 1, and that line with its offset 2^30 ticks away */
+static void mode(const hk_contact *c, uint64_t number)
 {
-    hk_polynomial_opening opening = {c->window, {{10, 0, 0, 0}, 0}, {c->delays[0]}, 1};
+    hk_polynomial_opening opening = {{.mode = number}, c->window, {{10, 0, 0, 0}, 0}, {c->delays[0]}, 1};
     hk_polynomial_opened opened = hk_polynomial_open(&opening);
     hk_polynomial m = opened.manager;
-    hk_bundle b = {15, 0};
-    show("polynomial", hk_polynomial_dry_run(&m, 3, b));
-    hk_offer o = hk_polynomial_dry_run_kept(m.window, m.polynome.coefficients, m.polynome.offset, words(m.delays), m.delay_count, words(m.free.segments), m.free.count, 3, b);
-    int n = hk_polynomial_book_kept(m.window, m.polynome.coefficients, m.polynome.offset, words(m.delays), m.delay_count, (uint64_t *)m.free.segments, &m.free.count, 3, b, (const uint64_t *)&o.dates);
-    list("kept booking", opened.number + n, &m.free);
+    printf("mode %lu: %d, named %lu\n", number, opened.number, m.choices.mode);
+    if (opened.number != 0)
+        return;
+    show("15 at 3", hk_polynomial_dry_run(&m, 3, (hk_bundle){15, 0}));
+    polynomial_booked(&m, 3, (hk_bundle){20, 0});
+    opening.polynome = (hk_polynome){{0, 1, 0, 0}, 0};
+    m = hk_polynomial_open(&opening).manager;
+    hk_bundle one = {1, 0};
+    hk_offer o = hk_polynomial_dry_run(&m, 0, one);
+    show("slope 1, 1 at 0", o);
+    polynomial_booked(&m, 0, one);
+    m.choices.mode = 3;
+    printf("damaged: %d %d %d\n", hk_polynomial_ok(&m), hk_polynomial_dry_run(&m, 0, one).number, hk_polynomial_book(&m, 0, one, &o.dates));
+    opening.polynome.offset = 1 << 30;
+    printf("offset 2^30: %d\n", hk_polynomial_open(&opening).number);
 }
 
 static void queue(const hk_contact *c)
@@ -151,11 +172,13 @@ int main(void)
     free_volume(&opening);
     rises(&opening);
     priority(&opening);
-    polynomial(&opening);
     queue(&opening);
     edition(opening, 1);
     edition(opening, 2);
     edition(opening, 3);
+    mode(&opening, 1);
+    mode(&opening, 2);
+    mode(&opening, 3);
     left_zero();
     return 0;
 }

@@ -64,10 +64,31 @@ uint8_t hk_priority_book_kept(hk_interval window, const uint64_t *rates, size_t 
 hk_room hk_free_room(const hk_free *m);
 uint64_t hk_free_room_kept(const hk_free *m);
 
+/* What an opening of the polynomial manager chooses and the record names; no booking changes it. Write it by its name, { .mode = 1 } for what the
+   original has: as with hk_choices, an opening with a choice that there is not, or left zero, is refused with 2, before all else, and a record
+   that names one with 1.
+   The mode, 1 or 2, is how the capacity of a send, the integral of the rate, is counted. 1, the original's, divides each coefficient for the
+   integral and drops the fraction: a rate that is a slope of 1 alone carries nothing. 2 takes the true integral, in twelfths: the end has exactly
+   the size, or it has more and one tick earlier has less; where the rate is not below 0 at any tick or half tick of the window, and above 0 at
+   every tick, it is the first tick that has the size. Twelve times the figures must stay within the same 2^61, so a polynomial that opens in mode
+   1 can be 11 in mode 2: put the offset in or near the window (a slope of 1 opens with an offset 2^29 ticks away, and is 11 with one 2^30 away) */
+typedef struct { uint64_t mode; } hk_polynomial_choices;
+
 /* the polynomial manager */
 typedef struct { int64_t coefficients[4]; uint64_t offset; } hk_polynome;
-typedef struct { hk_interval window; hk_polynome polynome; hk_segment delays[16]; size_t delay_count; } hk_polynomial_opening;
-typedef struct { hk_interval window; hk_polynome polynome; hk_segment delays[16]; size_t delay_count; hk_list free; } hk_polynomial;
+typedef struct {
+    hk_polynomial_choices choices;
+    hk_interval window;
+    hk_polynome polynome;
+    hk_segment delays[16]; size_t delay_count;
+} hk_polynomial_opening;
+typedef struct {
+    hk_polynomial_choices choices;
+    hk_interval window;
+    hk_polynome polynome;
+    hk_segment delays[16]; size_t delay_count;
+    hk_list free;
+} hk_polynomial;
 typedef struct { uint8_t number; hk_polynomial manager; } hk_polynomial_opened;
 
 hk_polynomial_opened hk_polynomial_open(const hk_polynomial_opening *opening);
@@ -76,9 +97,10 @@ hk_listing hk_polynomial_list(const hk_polynomial *m);
 hk_offer hk_polynomial_dry_run(const hk_polynomial *m, uint64_t at, hk_bundle bundle);
 uint8_t hk_polynomial_book(hk_polynomial *m, uint64_t at, hk_bundle bundle, const hk_dates *dates);
 hk_offer hk_polynomial_dry_run_kept(hk_interval window, const int64_t coefficients[4], uint64_t offset, const uint64_t *delays,
-    size_t delay_count, const uint64_t *free, size_t count, uint64_t at, hk_bundle bundle);
+    size_t delay_count, const uint64_t *free, size_t count, uint64_t at, hk_bundle bundle, const hk_polynomial_choices *choices);
 uint8_t hk_polynomial_book_kept(hk_interval window, const int64_t coefficients[4], uint64_t offset, const uint64_t *delays,
-    size_t delay_count, uint64_t *free, size_t *count, uint64_t at, hk_bundle bundle, const uint64_t dates[4]);
+    size_t delay_count, uint64_t *free, size_t *count, uint64_t at, hk_bundle bundle, const uint64_t dates[4],
+    const hk_polynomial_choices *choices);
 
 /* the queue manager */
 typedef struct { bool add_delay, self_update, budgeted; } hk_flags;

@@ -6,7 +6,7 @@
 //! or is what the original has, and the record then passes the same test as any
 //! other.
 
-use crate::choices::Choices;
+use crate::choices::{Choices, Chosen, PolynomialChoices};
 use crate::manager::{Manager, Record};
 use crate::record::{
     Bookings, Contact, DELAYS, FreeList, FreeVolume, LISTED, PolySeg, PrioritySeg, Queue,
@@ -18,12 +18,13 @@ use crate::segments::{BookingSegment, DelaySegment, Flags, Interval, Polynome, V
 /// the record's form.
 const FREE: u8 = 0x21;
 const PRIORITY: u8 = 0x12;
-const POLYNOMIAL: u8 = 3;
+const POLYNOMIAL: u8 = 0x13;
 const QUEUE: u8 = 4;
 
 /// The forms that records had before they named their choices.
 const FREE_WITHOUT_CHOICES: u8 = 0x11;
 const PRIORITY_WITHOUT_CHOICES: u8 = 2;
+const POLYNOMIAL_WITHOUT_CHOICES: u8 = 3;
 
 /// The form that free-volume records had before they held their room.
 const FREE_WITHOUT_ROOM: u8 = 1;
@@ -159,19 +160,22 @@ fields! {
 
 /// A count in one byte, and as many numbers. Bytes with fewer numbers than
 /// there are choices were written before the rest could be chosen.
-impl Bytes for Choices {
+impl<C: Chosen> Bytes for C {
     fn write(&self, out: &mut Vec<u8>) {
         let mut choices = *self;
         let places = choices.places();
         (places.len() as u8).write(out);
-        places.iter().for_each(|place| place.write(out));
+        places.for_each(|place| place.write(out));
     }
 
     fn read(from: &mut &[u8]) -> Option<Self> {
         let count = usize::from(u8::read(from)?);
-        let mut choices = Choices::default();
-        for place in choices.places().get_mut(..count)? {
-            **place = u64::read(from)?;
+        let mut choices = C::default();
+        if count > choices.places().len() {
+            return None;
+        }
+        for place in choices.places().take(count) {
+            *place = u64::read(from)?;
         }
         Some(choices)
     }
@@ -297,6 +301,7 @@ impl Bytes for PrioritySeg {
 impl Bytes for PolySeg {
     fn write(&self, out: &mut Vec<u8>) {
         POLYNOMIAL.write(out);
+        self.choices.write(out);
         self.window.write(out);
         self.polynome.write(out);
         write_list(&self.delays, self.delay_count, out);
@@ -304,12 +309,17 @@ impl Bytes for PolySeg {
     }
 
     fn read(from: &mut &[u8]) -> Option<Self> {
-        kind(POLYNOMIAL, from)?;
+        let choices = match u8::read(from)? {
+            POLYNOMIAL => Bytes::read(from)?,
+            POLYNOMIAL_WITHOUT_CHOICES => PolynomialChoices::default(),
+            _ => return None,
+        };
         let window = Bytes::read(from)?;
         let polynome = Bytes::read(from)?;
         let (delays, delay_count) = read_list::<_, DELAYS>(from)?;
         let free = Bytes::read(from)?;
         Some(PolySeg {
+            choices,
             window,
             polynome,
             delays,

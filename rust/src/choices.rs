@@ -1,7 +1,13 @@
 //! What an opening chooses and the record then names.
 
-/// How many numbers the choices are, in the library and in [`Choices`].
-pub(crate) const COUNT: usize = 1;
+/// Choices as the numbers that the library is lent and that bytes hold.
+pub trait Chosen: Copy + Default {
+    /// How many numbers they are, in the library and here.
+    const COUNT: usize;
+
+    /// The numbers, in the order in which they are lent and written.
+    fn places(&mut self) -> impl ExactSizeIterator<Item = &mut u64>;
+}
 
 /// What a free-volume or a priority contact is opened with beside its figures,
 /// for [`FreeVolume::open_with`](crate::FreeVolume::open_with) and
@@ -66,9 +72,85 @@ impl Default for Choices {
     }
 }
 
-impl Choices {
-    /// The numbers, in the order in which they are lent and written.
-    pub(crate) fn places(&mut self) -> [&mut u64; COUNT] {
-        [&mut self.edition]
+impl Chosen for Choices {
+    const COUNT: usize = 1;
+
+    fn places(&mut self) -> impl ExactSizeIterator<Item = &mut u64> {
+        [&mut self.edition].into_iter()
+    }
+}
+
+/// What a polynomial contact is opened with beside its figures, for
+/// [`PolySeg::open_with`](crate::PolySeg::open_with). The record names it, and
+/// no booking changes it.
+///
+/// [`PolynomialChoices::default`] is what the original has, and what `open`
+/// takes. A choice that there is not is refused with
+/// [`Refusal::CHOICE`](crate::Refusal::CHOICE), before all else.
+///
+/// # The mode in which capacity is counted
+///
+/// The polynomial is a rate, and what a send carries is its integral from the
+/// send's start to its end. The search for the end takes the same steps in both
+/// modes.
+///
+/// - Mode 1, the original's, divides each coefficient for the integral and drops
+///   the fraction. A slope of 1 has 1/2 there, which becomes 0: a pass whose rate
+///   is that slope alone carries nothing, and a rate that falls by 1 a tick is
+///   counted as if it did not fall.
+/// - Mode 2 takes the true integral. It is counted in twelfths, since halves,
+///   thirds and quarters are whole numbers of these. A send's end has exactly the
+///   size, or it has more and one tick earlier has less. Where the rate is not
+///   below 0 at any tick or half tick of the window, and above 0 at every tick,
+///   the end is the first tick that has the size. This is proved.
+///
+/// Twelve times the figures must stay within the same 2^61, so a polynomial that
+/// opens in mode 1 can be refused with
+/// [`Refusal::POLYNOMIAL`](crate::Refusal::POLYNOMIAL) in mode 2. The figures grow
+/// with the distance of the offset from the window's ends: fit a polynomial with
+/// its offset in or near the window. A slope of 1 opens with an offset 2^29 ticks
+/// away and is refused with one 2^30 away.
+///
+/// The last line of document 01's case 10, asked at 0:
+///
+/// ```
+/// use howrekano::{Bundle, DelaySegment, Interval, PolySeg, Polynome, PolynomialChoices, Refusal};
+///
+/// let window = Interval { start: 0, end: 10 };
+/// let delays = [DelaySegment { start: 0, end: 10, delay: 3 }];
+/// let slope_1 = |mode, offset| {
+///     let choices = PolynomialChoices { mode, ..PolynomialChoices::default() };
+///     let line = Polynome { coefficients: [0, 1, 0, 0], offset };
+///     PolySeg::open_with(choices, window, line, &delays)
+/// };
+/// let unit = Bundle { size: 1, priority: 0 };
+/// assert_eq!(slope_1(1, 0)?.dry_run(0, unit), Err(Refusal::NO_OFFER));
+/// assert_eq!(slope_1(2, 0)?.dry_run(0, unit)?.send, Interval { start: 0, end: 2 });
+/// assert_eq!(slope_1(3, 0), Err(Refusal::CHOICE));
+///
+/// assert!(slope_1(1, 1 << 30).is_ok());
+/// assert_eq!(slope_1(2, 1 << 30), Err(Refusal::POLYNOMIAL));
+/// assert!(slope_1(2, 1 << 29).is_ok());
+/// # Ok::<(), Refusal>(())
+/// ```
+#[repr(C)]
+#[derive(Clone, Copy, Debug, PartialEq, Eq, Hash)]
+pub struct PolynomialChoices {
+    /// The mode in which capacity is counted: 1 or 2.
+    pub mode: u64,
+}
+
+impl Default for PolynomialChoices {
+    /// What the original has.
+    fn default() -> Self {
+        PolynomialChoices { mode: 1 }
+    }
+}
+
+impl Chosen for PolynomialChoices {
+    const COUNT: usize = 1;
+
+    fn places(&mut self) -> impl ExactSizeIterator<Item = &mut u64> {
+        [&mut self.mode].into_iter()
     }
 }

@@ -19,6 +19,9 @@
 //!
 //! The free-volume and the priority manager round a send's end as the original
 //! does, or with `open_with` as the relay's own rule does: [`Choices`] says how.
+//! The polynomial manager counts capacity as the original does, which drops
+//! fractions, or with `open_with` as the true integral: [`PolynomialChoices`] says
+//! how.
 //!
 //! A record can be taken out and put back, as bytes or as plain data:
 //!
@@ -56,7 +59,7 @@ mod refusal;
 #[allow(missing_docs)]
 mod segments;
 
-pub use choices::Choices;
+pub use choices::{Choices, PolynomialChoices};
 pub use free::FreeVolume;
 pub use manager::{Manager, Record};
 pub use polynomial::PolySeg;

@@ -10,7 +10,7 @@
 use std::mem::MaybeUninit;
 use std::ptr;
 
-use crate::choices::{self, Choices};
+use crate::choices::Chosen;
 use crate::record::{
     Bookings, Classes, FreeList, FreeVolume, Opening, PolySeg, PolynomialOpening, PrioritySeg,
     Queue, QueueOpening,
@@ -154,10 +154,6 @@ const _: () = assert!(size_of::<DelaySegment>() == WORDS);
 const _: () = assert!(size_of::<BookingSegment>() == WORDS);
 const _: () = assert!(align_of::<BookingSegment>() == align_of::<u64>());
 
-// And the choices are their count of numbers.
-const _: () = assert!(size_of::<Choices>() == choices::COUNT * size_of::<u64>());
-const _: () = assert!(align_of::<Choices>() == align_of::<u64>());
-
 fn words<T, const PLACES: usize>(places: &[T; PLACES]) -> *const u64 {
     places.as_ptr().cast()
 }
@@ -166,7 +162,12 @@ fn words_mut<T, const PLACES: usize>(places: &mut [T; PLACES]) -> *mut u64 {
     places.as_mut_ptr().cast()
 }
 
-fn chosen(choices: &Choices) -> *const u64 {
+/// Choices as they are lent: their count of numbers, and nothing else.
+fn chosen<C: Chosen>(choices: &C) -> *const u64 {
+    const {
+        assert!(size_of::<C>() == C::COUNT * size_of::<u64>());
+        assert!(align_of::<C>() == align_of::<u64>());
+    }
     ptr::from_ref(choices).cast()
 }
 
@@ -276,6 +277,7 @@ unsafe extern "C" {
         count: usize,
         at: u64,
         bundle: Bundle,
+        choices: *const u64,
     ) -> *mut Answer<Offer>;
     fn hk_polynomial_book_kept(
         window: Interval,
@@ -288,6 +290,7 @@ unsafe extern "C" {
         at: u64,
         bundle: Bundle,
         offer: *const Offer,
+        choices: *const u64,
     ) -> u8;
     fn hk_queue_dry_run_kept(
         out: *mut Answer<Offer>,
@@ -313,6 +316,7 @@ impl Kept for PolySeg {
                 self.free.count,
                 at,
                 bundle,
+                chosen(&self.choices),
             );
         })
     }
@@ -331,6 +335,7 @@ impl Kept for PolySeg {
                 at,
                 bundle,
                 &offer,
+                chosen(&self.choices),
             )
         })
     }
@@ -436,11 +441,11 @@ impl Manager<FreeVolume> {
     /// stretches. It never exceeds what the listed time carries at the contact's
     /// rates.
     ///
-    /// Under edition 1 of the end rule (see [`Choices`]) a booking at a stretch's
-    /// start takes its size off the volume, and one inside a stretch works the
-    /// volumes out anew, so that the room can rise by it. Under edition 2 every
-    /// booking works them out anew: the room of a contact opened so is exactly
-    /// what the listed time carries, and no booking raises it.
+    /// Under edition 1 of the end rule (see [`Choices`](crate::Choices)) a booking
+    /// at a stretch's start takes its size off the volume, and one inside a
+    /// stretch works the volumes out anew, so that the room can rise by it. Under
+    /// edition 2 every booking works them out anew: the room of a contact opened
+    /// so is exactly what the listed time carries, and no booking raises it.
     #[inline]
     pub fn room(&self) -> u64 {
         // SAFETY: the pointer is of a reference; the record of a manager keeps

@@ -1,6 +1,7 @@
 //! The polynomial manager: free stretches, and a capacity that a polynomial
 //! gives for each date.
 
+use crate::choices::PolynomialChoices;
 use crate::manager::Manager;
 use crate::record::{self, PolynomialOpening, placed, used};
 use crate::refusal::Refusal;
@@ -26,18 +27,35 @@ use crate::segments::{DelaySegment, Interval, Polynome, VolumeSegment};
 pub type PolySeg = Manager<record::PolySeg>;
 
 impl PolySeg {
-    /// Opens a contact; its delays need not cover the window.
+    /// Opens a contact, with the original's choices; its delays need not cover
+    /// the window.
     pub fn open(
         window: Interval,
         polynome: Polynome,
         delays: &[DelaySegment],
     ) -> Result<Self, Refusal> {
+        Self::open_with(PolynomialChoices::default(), window, polynome, delays)
+    }
+
+    /// [`PolySeg::open`] with these choices.
+    pub fn open_with(
+        choices: PolynomialChoices,
+        window: Interval,
+        polynome: Polynome,
+        delays: &[DelaySegment],
+    ) -> Result<Self, Refusal> {
         Manager::opened(&PolynomialOpening {
+            choices,
             window,
             polynome,
             delays: placed(delays),
             delay_count: delays.len(),
         })
+    }
+
+    /// What the contact was opened with.
+    pub fn choices(&self) -> PolynomialChoices {
+        self.record().choices
     }
 
     /// The free stretches, in order; their volumes are 0.

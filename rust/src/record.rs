@@ -1,7 +1,7 @@
 //! The managers' records, their openings' figures and their lists, laid out as
 //! in the library: plain data with fixed places.
 
-use crate::choices::Choices;
+use crate::choices::{Choices, PolynomialChoices};
 use crate::segments::{
     BookingSegment, DelaySegment, Flags, Interval, Polynome, RateSegment, VolumeSegment,
 };
@@ -57,6 +57,7 @@ pub struct PrioritySeg {
 #[repr(C)]
 #[derive(Clone, Copy, Debug, PartialEq, Eq)]
 pub struct PolySeg {
+    pub choices: PolynomialChoices,
     pub window: Interval,
     pub polynome: Polynome,
     pub delays: [DelaySegment; DELAYS],
@@ -91,6 +92,7 @@ pub struct Opening {
 #[repr(C)]
 #[derive(Clone, Copy, Debug, PartialEq, Eq)]
 pub struct PolynomialOpening {
+    pub choices: PolynomialChoices,
     pub window: Interval,
     pub polynome: Polynome,
     pub delays: [DelaySegment; DELAYS],

@@ -72,7 +72,7 @@ impl Refusal {
             ),
             Self::BUNDLE => (
                 "the time, the size or the priority is outside its limits, or an opening names a choice that there is not",
-                "ask at a time of 0 to 2^40 for a size of 1 to 2^38 with a priority of 0 to 127; open a contact with edition 1 or 2",
+                "ask at a time of 0 to 2^40 for a size of 1 to 2^38 with a priority of 0 to 127; open a contact with edition 1 or 2, a polynomial with mode 1 or 2",
             ),
             Self::WINDOW => (
                 "the window is outside its limits",
@@ -107,7 +107,7 @@ impl Refusal {
                 "book at a listed segment's start, or try another contact",
             ),
             Self::POLYNOMIAL => (
-                "the offset, a coefficient or the polynomial's range is outside its limits",
+                "the offset, a coefficient or the polynomial's range (in mode 2, twelve times that) is outside its limits",
                 "coefficients are within 2^61 and the offset at most 2^40; move the offset nearer to the window",
             ),
             Self::SELF_UPDATE => (

@@ -3,7 +3,7 @@
 
 use howrekano::{
     Bundle, Choices, DelaySegment, Flags, FreeVolume, Interval, Manager, Offer, PolySeg, Polynome,
-    PrioritySeg, Queue, RateSegment, Record, Refusal, record,
+    PolynomialChoices, PrioritySeg, Queue, RateSegment, Record, Refusal, record,
 };
 
 /// Xorshift: the same numbers at every run.
@@ -181,19 +181,24 @@ fn priority() {
 fn polynomial() {
     let mut rng = Rng(13);
     for _ in 0..300 {
+        let choices = PolynomialChoices {
+            mode: 1 + rng.below(2),
+        };
         let polynome = Polynome {
             coefficients: [rng.below(9) as i64, rng.below(3) as i64 - 1, 0, 0],
             offset: rng.below(LENGTH),
         };
-        let mut manager = PolySeg::open(WINDOW, polynome, &delays(&mut rng)).unwrap();
+        let opened = PolySeg::open_with(choices, WINDOW, polynome, &delays(&mut rng));
+        let mut manager = opened.unwrap();
         talk(&mut rng, &mut manager, |m| m.record().free);
         assert_eq!(PolySeg::from_bytes(&manager.to_bytes()), Ok(manager));
         tampers(&mut rng, &manager.to_bytes(), PolySeg::from_bytes);
         let mut damaged = *manager.record();
-        match rng.below(4) {
+        match rng.below(5) {
             0 => damaged.free.segments[0].volume = 1 + rng.word() % 9,
             1 => damaged.polynome.coefficients[3] = i64::MIN,
             2 => damaged.polynome.offset = u64::MAX,
+            3 => damaged.choices.mode = rng.word() | 4,
             _ => damaged.delay_count = rng.word() as usize | 17,
         }
         refuses(damaged);
