@@ -16,7 +16,7 @@ use adapter::asabr::contact_manager::{ContactManager, ContactManagerTxData};
 use adapter::asabr::poly::Polynome;
 use adapter::asabr::types::{NodeID, TimeInterval};
 use adapter::{Adapts, Polynomial, Queueing, Rated};
-use howrekano::{Flags, Interval, Manager, Offer, Refusal, record};
+use howrekano::{Flags, Interval, Manager, Offer, PolynomialChoices, Refusal, record};
 
 const HELP: &str = "\
 bench: times dry runs, refused ones and bookings of the proved managers, by the kept
@@ -111,11 +111,18 @@ fn polynomial(listed: u64) -> Result<(), Refusal> {
     for place in 1..listed {
         pair.book(100 * place, TEN_TICKS)?;
     }
-    let name = format!("polynomial, {listed} listed");
     let last = pair.ours.list()[listed as usize - 1].start;
-    pair.measure(&name, "dry run", last, TEN_TICKS);
-    pair.refused(&name);
-    pair.booking(&name, "at a start", last, TEN_TICKS);
+    // The original has mode 1 alone. The rate does not change, so that mode 2
+    // has the same offers.
+    for (mode, named) in [(1, ""), (2, ", mode 2")] {
+        let mut record = *pair.ours.record();
+        record.choices = PolynomialChoices { mode };
+        pair.ours = Manager::from_record(record)?;
+        let name = format!("polynomial, {listed} listed{named}");
+        pair.measure(&name, "dry run", last, TEN_TICKS);
+        pair.refused(&name);
+        pair.booking(&name, "at a start", last, TEN_TICKS);
+    }
     Ok(())
 }
 
