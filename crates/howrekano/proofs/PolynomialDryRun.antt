@@ -16,18 +16,22 @@ use Rattle.free_list.specs.declared.Found.the-variants.{At}
 use Rattle.free_list.specs.Listed.{listOk}
 use Rattle.free_list.specs.Cut.{listed}
 use Rattle.poly.specs.declared.Polynome.{Polynome}
-use Rattle.poly.specs.Poly.{capacityTo}
+use Rattle.poly.specs.declared.terms.Terms.{Terms}
+use Rattle.poly.specs.Poly.{stepMax}
 use Rattle.poly.specs.Search.{wantedOf}
-use Rattle.poly.specs.Granted.{termsOf, Ranged}
+use Rattle.poly.specs.Granted.{termsOf, capacityBy, Ranged}
 use Rattle.poly_seg.specs.declared.PolySeg.{PolySeg}
 use Rattle.poly_seg.specs.Record.{delayList, recordOk}
-use Rattle.poly_seg.specs.DryRun.{offerOf, dryRunOf, foundOf, answerTo}
+use Rattle.poly_seg.specs.DryRun.{sizeOf, offerOf, dryRunOf, foundOf, answerTo}
+use Rattle.poly_seg.proofs.Counting.{terms-ranged, size-small, counted-offer}
 use Rattle.poly_seg.proofs.Facts.{Facts, facts, found-dates}
 
--- the search over a mode and a polynomial that are the record's is the record's
-pub search-of : (r : PolySeg) (mode : ℕ) (p : Polynome) → mode ≡ r .choices .mode .0 → p ≡ r .polynome → (t v : ℕ)
-    → offerOf (capacityTo mode p) (listed (r .free)) t (wantedOf mode v) ≡ foundOf r t v
-search-of r mode p m e t v = rw (m, e)
+-- the terms and the size that a record's mode makes of what is the record's
+pub terms-of : (r : PolySeg) (mode : ℕ) (p : Polynome) → mode ≡ r .choices .mode .0 → p ≡ r .polynome → termsOf mode p ≡ termsOf (r .choices .mode .0) (r .polynome)
+terms-of r mode p m e = rw (m, e)
+
+pub size-of : (r : PolySeg) (mode v : ℕ) → mode ≡ r .choices .mode .0 → wantedOf mode v ≡ sizeOf r v
+size-of r mode v m = rw m
 
 module _ (r : PolySeg) (at : Date) (b : Bundle) (ok : recordOk r ≡ true) where
   pub dry-bundle : bundleOk at b ≡ false → dryRunOf r at b ≡ refused 2
@@ -45,9 +49,24 @@ module _ (r : PolySeg) (at : Date) (b : Bundle) (ok : recordOk r ≡ true) where
     abbrev carried : Load b
     carried = load b (asked-load at b fits)
 
-    pub search-asks : (r .free .count ≤ listedMax) × (Ranged (termsOf (r .choices .mode .0) (r .polynome)) (r .window)
-        × ((listOk [] (r .window .start .0) (r .window .end .0) (listed (r .free)) ≡ true) × (b .size .0 ≤ volumeMax)))
-    search-asks = (kept .few, (kept .range, (kept .rules, carried .size)))
+    -- what the terms, the size and the search over both ask
+    module _ (mode : ℕ) (p : Polynome) (m : mode ≡ r .choices .mode .0) (e : p ≡ r .polynome) where
+      pub terms-asks : Ranged (termsOf mode p) (r .window)
+      terms-asks = rw (terms-of r mode p m e) (kept .range)
+
+      pub size-asks : b .size .0 ≤ volumeMax
+      size-asks = carried .size
+
+      module _ (terms : Terms) (size : ℕ) (same : terms ≡ termsOf mode p) (counted : size ≡ wantedOf mode (b .size .0)) where
+        pub search-asks : (r .free .count ≤ listedMax) × (Ranged terms (r .window)
+            × ((listOk [] (r .window .start .0) (r .window .end .0) (listed (r .free)) ≡ true) × (size ≤ stepMax)))
+        search-asks = (
+          kept .few,
+          (terms-ranged mode p terms same (r .window) terms-asks, (kept .rules, size-small mode p terms same (b .size .0) size counted size-asks)),
+        )
+
+        pub search-is : offerOf (capacityBy terms) (listed (r .free)) (at .0) size ≡ foundOf r (at .0) (b .size .0)
+        search-is = counted-offer _ _ terms (same ∙ terms-of r mode p m e) (b .size .0) size (counted ∙ size-of r mode (b .size .0) m) (listed (r .free)) (at .0)
 
     pub answer-asks : (i : ℕ) (send : Interval) → foundOf r (at .0) (b .size .0) ≡ At i send
         → (r .«delay_count» ≤ segmentsMax) × (AllShort (delayList r) × ((send .start .0 ≤ dateMax) × (send .end .0 ≤ dateMax)))

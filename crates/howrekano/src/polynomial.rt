@@ -121,15 +121,10 @@ fn chosen(
     let size = bundle.size;
     let named = poly_words::choices_at(choices);
     let mode = named.mode;
-    let Found::At { place, send } = poly_words::find_offer(
-        mode,
-        window,
-        polynome,
-        free,
-        count,
-        at,
-        size,
-    ) else {
+    let terms = polynome.terms(mode, window);
+    let wanted = mode.wanted(size);
+    let Found::At { place, send } = poly_words::find_offer(window, terms, free, count, at, wanted)
+    else {
         return Chosen::refused(units::refusal::NO_OFFER);
     };
     let offer = words::answer_at(delays, delay_count, send);
@@ -162,14 +157,15 @@ pub extern "C" fn hk_polynomial_dry_run_kept(
     let size = bundle.size;
     let named = poly_words::choices_at(choices);
     let mode = named.mode;
+    let terms = polynome.terms(mode, window);
+    let wanted = mode.wanted(size);
     let Found::At { place: _, send } = poly_words::find_offer(
-        mode,
         window,
-        polynome,
+        terms,
         free,
         count,
         at,
-        size,
+        wanted,
     ) else {
         return Offer::refused(units::refusal::NO_OFFER);
     };

@@ -1,7 +1,6 @@
 -- Laws of products of integers that the library leaves out: they distribute over sums and associate.
-use Prim.Native.Nat.{ℕ}
 use mathlib.Core.Path.{_≡_, sym, ap, _∙_}
-use lib.IntN.{ℤ, pos, sucℤ, predℤ, negℤ, _+ℤ_, _-ℤ_, _*ℤ_, ℤ-ind, +ℤ-idl, +ℤ-idr, +ℤ-one, +ℤ-sucℤ, +ℤ-predℤ, -ℤ-one, +ℤ-assoc, +ℤ-comm, +ℤ-invl, +ℤ-negℤ-cancel, zero-*ℤ, sucℤ-*ℤ, predℤ-*ℤ, *ℤ-comm}
+use lib.IntN.{ℤ, pos, negℤ, _+ℤ_, _-ℤ_, _*ℤ_, ℤ-ind, +ℤ-idl, +ℤ-idr, +ℤ-one, +ℤ-sucℤ, +ℤ-predℤ, -ℤ-one, +ℤ-assoc, +ℤ-comm, +ℤ-invl, +ℤ-negℤ-cancel, zero-*ℤ, sucℤ-*ℤ, predℤ-*ℤ, *ℤ-comm}
 
 module _ (a k : ℤ) where
   abbrev Spreads : ℤ → Type 0

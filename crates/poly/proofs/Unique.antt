@@ -1,6 +1,6 @@
 -- Each public call's promise determines its answer: two answers that meet it are equal. `Post` is the reading of the contract in src/.
 use Prim.Native.Nat.{ℕ}
-use mathlib.Core.Path.{_≡_, sym, _∙_}
+use mathlib.Core.Path.{sym, _∙_}
 use lib.IntN.{ℤ}
 use Rattle.units.specs.declared.Date.{Date}
 use Rattle.units.specs.declared.Interval.{Interval}

@@ -86,23 +86,27 @@ fn mag_step(v: u64, m: u64, q: u64) -> u64
     p + q
 }
 
-// The range rule at a distance from the offset.
+// The range rule at a distance from the offset. The magnitudes come first: no step then asks for the mode, and one division serves all.
 fn in_range(mode: Mode, c0: i64, c1: i64, c2: i64, c3: i64, m: u64) -> bool
     ensures { λ r. ⌜ r ≡ rangeOk (termOf (mode .0) c0 1) (termOf (mode .0) c1 2) (termOf (mode .0) c2 3) (termOf (mode .0) c3 4) m ⌝ }
 {
-    let v3 = mag_step(0, m, mode.magnitude(c3, 4));
+    let q3 = mode.magnitude(c3, 4);
+    let q2 = mode.magnitude(c2, 3);
+    let q1 = mode.magnitude(c1, 2);
+    let q0 = mode.magnitude(c0, 1);
+    let v3 = mag_step(0, m, q3);
     if Polynome::STEP_MAX < v3 {
         return false;
     }
-    let v2 = mag_step(v3, m, mode.magnitude(c2, 3));
+    let v2 = mag_step(v3, m, q2);
     if Polynome::STEP_MAX < v2 {
         return false;
     }
-    let v1 = mag_step(v2, m, mode.magnitude(c1, 2));
+    let v1 = mag_step(v2, m, q1);
     if Polynome::STEP_MAX < v1 {
         return false;
     }
-    let v0 = mag_step(v1, m, mode.magnitude(c0, 1));
+    let v0 = mag_step(v1, m, q0);
     if Polynome::STEP_MAX < v0 {
         return false;
     }

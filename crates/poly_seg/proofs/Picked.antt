@@ -1,5 +1,5 @@
 -- The offer over any capacity to a date: segment by segment, and what is known of the segment that makes it.
-use Prim.Native.Nat.{ℕ, suc, _+_, _<_, _≤_, max}
+use Prim.Native.Nat.{ℕ, _+_, _<_, _≤_, max}
 use mathlib.Core.Bool.{Bool, true, false}
 use mathlib.Core.Path.{_≡_, refl, ap}
 use mathlib.Core.List.{List, [], _∷_}

@@ -22,9 +22,11 @@ ghost use mathlib.Core.Path.{_≡_};
 ghost use mathlib.Core.Bool.{true};
 ghost use mathlib.Core.List.{[]};
 ghost use Prim.Native.Nat.{_≤_};
-ghost use lib.ListN.{take};
+ghost use lib.ListN.{take, drop};
 ghost use Rattle.units.specs.Limits.{dateMax, volumeMax, listedMax, windowOk};
+ghost use Rattle.units.specs.Logic.{both, allOf};
 ghost use Rattle.segmentation.specs.Delay.{answerWith};
+ghost use Rattle.contact.specs.Segments.{noVolume};
 ghost use Rattle.free_list.specs.Listed.{segmentOk, listOk};
 ghost use Rattle.free_list.specs.Granted.{Inside};
 ghost use Rattle.poly.specs.Poly.{stepMax};
@@ -165,6 +167,17 @@ pub fn bare_ok(segments: [VolumeSegment; FreeList::COUNT_MAX], n: usize, window:
     }
 }
 
+// And is nothing in the places from the count on?
+fn listed_ok(segments: [VolumeSegment; FreeList::COUNT_MAX], n: usize, window: Interval) -> bool
+    requires { ⌜ n ≤ listedMax ⌝ ∗ ⌜ windowOk window ≡ true ⌝ }
+    ensures { λ r. ⌜ r ≡ both (listOk [] (window .start .0) (window .end .0) (take n segments)) (allOf noVolume (drop n segments)) ⌝ }
+{
+    if !bare_ok(segments, n, window) {
+        return false;
+    }
+    free_list::unused(segments, n)
+}
+
 // The end that a listed segment has for a size as the terms count it: none if it ends before the asked time.
 pub fn end_in(window: Interval, terms: Terms, g: VolumeSegment, asked: Date, size: u64) -> End
     requires { ⌜ Ranged terms window ⌝ ∗ ⌜ (window .start .0 ≤ g .start .0) × (g .end .0 ≤ window .end .0) ⌝ ∗ ⌜ size ≤ stepMax ⌝ }
@@ -296,10 +309,7 @@ impl PolySeg {
         if FreeList::COUNT_MAX < n {
             return false;
         }
-        if !bare_ok(segments, n, window) {
-            return false;
-        }
-        free_list::unused(segments, n)
+        listed_ok(segments, n, window)
     }
 
     // The search of a dry run, on a record that keeps its rules: a free segment that has no end is passed over.

@@ -1,12 +1,11 @@
 // The polynomial manager's search over a free list lent as numbers.
 use free_list::Found;
 use poly::Mode;
-use poly::Polynome;
+use poly::terms::Terms;
 use poly_seg::Choices;
 use segmentation::End;
 use units::Date;
 use units::Interval;
-use units::Volume;
 use words::LISTED;
 use words::listed_at;
 ghost use mathlib.Core.Path.{_≡_};
@@ -14,11 +13,10 @@ ghost use mathlib.Core.Bool.{true};
 ghost use mathlib.Core.List.{[]};
 ghost use Prim.Native.Nat.{_≤_};
 ghost use lib.ListN.{take};
-ghost use Rattle.units.specs.Limits.{volumeMax, listedMax};
+ghost use Rattle.units.specs.Limits.{listedMax};
 ghost use Rattle.free_list.specs.Listed.{listOk};
-ghost use Rattle.poly.specs.Poly.{capacityTo};
-ghost use Rattle.poly.specs.Search.{wantedOf};
-ghost use Rattle.poly.specs.Granted.{termsOf, Ranged};
+ghost use Rattle.poly.specs.Poly.{stepMax};
+ghost use Rattle.poly.specs.Granted.{capacityBy, Ranged};
 ghost use Rattle.poly_seg.specs.DryRun.{offerOf};
 ghost use Rattle.words.specs.Words.{volumesIn};
 ghost use Rattle.poly_words.specs.Words.{choicesIn};
@@ -38,29 +36,26 @@ pub fn choices_at(choices: &[u64; CHOICES]) -> Choices
     }
 }
 
-// dry_run_tx: a free segment that has no end is passed over.
+// dry_run_tx, for a size as the terms count it: a free segment that has no end is passed over.
 pub fn find_offer(
-    mode: Mode,
     window: Interval,
-    polynome: Polynome,
+    terms: Terms,
     free: &[u64; LISTED],
     n: usize,
     asked: Date,
-    size: Volume,
+    size: u64,
 ) -> Found
-    requires { ⌜ n ≤ listedMax ⌝ ∗ ⌜ Ranged (termsOf (mode .0) polynome) window ⌝ ∗ ⌜ listOk [] (window .start .0) (window .end .0) (take n (volumesIn (now free))) ≡ true ⌝ ∗ ⌜ size .0 ≤ volumeMax ⌝ }
-    ensures { λ r. ⌜ r ≡ offerOf (capacityTo (mode .0) polynome) (take n (volumesIn (now (free .entry)))) (asked .0) (wantedOf (mode .0) (size .0)) ⌝ }
+    requires { ⌜ n ≤ listedMax ⌝ ∗ ⌜ Ranged terms window ⌝ ∗ ⌜ listOk [] (window .start .0) (window .end .0) (take n (volumesIn (now free))) ≡ true ⌝ ∗ ⌜ size ≤ stepMax ⌝ }
+    ensures { λ r. ⌜ r ≡ offerOf (capacityBy terms) (take n (volumesIn (now (free .entry)))) (asked .0) size ⌝ }
 {
     told(free);
-    let terms = polynome.terms(mode, window);
-    let wanted = mode.wanted(size);
     let mut i: usize = 0;
     loop {
         if n <= i {
             break Found::None;
         }
         let g = listed_at(free, i);
-        let End::At(e) = poly_seg::end_in(window, terms, g, asked, wanted) else {
+        let End::At(e) = poly_seg::end_in(window, terms, g, asked, size) else {
             i += 1;
             continue;
         };

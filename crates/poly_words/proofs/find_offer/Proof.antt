@@ -1,6 +1,6 @@
 -- `poly_words::find_offer` meets its contract. The invariant: the segments left have the offer that is asked, at the loop's place on.
 use borrow.Author.Needs.{needs}
-use Prim.Native.Nat.{ℕ, _+_, _-_, _*_, _≤_}
+use Prim.Native.Nat.{ℕ, _+_, _-_, _*_}
 use mathlib.Core.Path.{_≡_, sym, ap, _∙_}
 use mathlib.Core.List.{List, _∷_}
 use lib.ListN.{length, take, drop}
@@ -12,22 +12,18 @@ use Rattle.segmentation.specs.declared.VolumeSegment.{VolumeSegment}
 use Rattle.free_list.specs.declared.Found.the-variants.{At}
 use Rattle.words.specs.Words.{volumeFrom, volumesIn}
 use Rattle.words.proofs.Threes.{first-at}
-use Rattle.poly.specs.Poly.{stepMax, capacityTo}
-use Rattle.poly.specs.Search.{wantedOf}
-use Rattle.poly.specs.Granted.{capacityBy, Ranged}
-use Rattle.poly_seg.specs.DryRun.{offerOf}
-use Rattle.poly_seg.proofs.Counting.{terms-ranged, size-small, counted-offer}
+use Rattle.poly.specs.Granted.{capacityBy}
 use Rattle.poly_seg.proofs.Picked.{loopOf, loop-first, loop-found, loop-on, loop-none}
 use Rattle.poly_words.proofs.Inside.{read-inside}
 use Rattle.poly_words.proofs.find_offer.Statement.{statement}
 use Rattle.poly_words.proofs.find_offer.Tie as tie
 
 abbrev Inv-loop : tie.InvT-loop
-Inv-loop window free n asked terms wanted i₀ i =
-    Left (loopOf (capacityBy terms) (asked .0) wanted) (take n (volumesIn free)) n 0 i i
+Inv-loop window terms free n asked size i₀ i =
+    Left (loopOf (capacityBy terms) (asked .0) size) (take n (volumesIn free)) n 0 i i
 
 abbrev μ-loop : tie.MeasureT-loop
-μ-loop window free n asked terms wanted i₀ i = n - i
+μ-loop window terms free n asked size i₀ i = n - i
 
 size-of : (c : tie.After-told-arg Inv-loop μ-loop) → length (c .before .args .free .now) ≡ 3 * listedMax
 size-of c = search needs
@@ -35,44 +31,16 @@ size-of c = search needs
 abbrev list : tie.Start Inv-loop μ-loop → List VolumeSegment
 list c = take (c .args .n) (volumesIn (c .args .free .now))
 
--- the terms and the size, as the mode counts them
-module _ (c : tie.After-wanted Inv-loop μ-loop) where
-  abbrev told : tie.After-told-arg Inv-loop μ-loop
-  told = c .before .before .before
-
-  abbrev start : tie.Start Inv-loop μ-loop
-  start = told .before
-
-  ranged : Ranged (c .before .terms .result) (start .args .window)
-  ranged = terms-ranged (start .args .mode .0) (start .args .polynome) _ (c .before .terms .ensures) (start .args .window) (start .pre .1 .0)
-
-  small : c .wanted .result ≤ stepMax
-  small = size-small (start .args .mode .0) (start .args .polynome) _ (c .before .terms .ensures) (start .args .size .0) _ (c .wanted .ensures) (start .pre .1 .1 .1)
-
-  counts : offerOf (capacityBy (c .before .terms .result)) (list start) (start .args .asked .0) (c .wanted .result)
-      ≡ offerOf (capacityTo (start .args .mode .0) (start .args .polynome)) (list start) (start .args .asked .0) (wantedOf (start .args .mode .0) (start .args .size .0))
-  counts = counted-offer (start .args .mode .0) (start .args .polynome) _ (c .before .terms .ensures) (start .args .size .0) _ (c .wanted .ensures) (list start) (start .args .asked .0)
-
--- where the loop began, from a place in it
-abbrev begun : tie.Else1 Inv-loop μ-loop → tie.After-wanted Inv-loop μ-loop
-begun c = c .before .before
-
 -- the segment at the loop's place is the one read
 here : (c : tie.After-listed-at Inv-loop μ-loop)
-    → drop (c .before .before .loop .i) (list (start (begun (c .before))))
-    ≡ c .listed-at .result ∷ drop (c .before .before .loop .i + 1) (list (start (begun (c .before))))
+    → drop (c .before .before .loop .i) (list (c .before .before .before .before .before))
+    ≡ c .listed-at .result ∷ drop (c .before .before .loop .i + 1) (list (c .before .before .before .before .before))
 here c =
-    let t = told (begun (c .before)) in
-    first-at volumeFrom _ listedMax _ (size-of t) (t .before .pre .0) _ _ _ (c .before .if1 .left) (c .listed-at .ensures)
+    let told = c .before .before .before .before in
+    first-at volumeFrom _ listedMax _ (size-of told) (told .before .pre .0) _ _ _ (c .before .if1 .left) (c .listed-at .ensures)
 
 told-requires : tie.Need-told-requires Inv-loop μ-loop
 told-requires c κs = search needs
-
-terms-requires : tie.Need-terms-requires Inv-loop μ-loop
-terms-requires c κs = c .before .before .pre .1 .0
-
-wanted-requires : tie.Need-wanted-requires Inv-loop μ-loop
-wanted-requires c κs = c .before .before .before .pre .1 .1 .1
 
 loop-holds : tie.Need-loop-holds Inv-loop μ-loop
 loop-holds c = left-first _ _ _ _
@@ -82,9 +50,10 @@ listed-at-requires c κs = search needs
 
 end-in-requires : tie.Need-end-in-requires Inv-loop μ-loop
 end-in-requires c κs =
-    let b = begun (c .before) in
-    let p = start b .pre in
-    (ranged b, (read-inside _ _ _ _ _ _ _ (size-of (told b)) (p .0) (c .before .if1 .left) (c .listed-at .ensures) (p .1 .1 .0), small b))
+    let e = c .before in
+    let told = e .before .before .before in
+    let p = told .before .pre in
+    (p .1 .0, (read-inside _ _ _ _ _ _ _ (size-of told) (p .0) (e .if1 .left) (c .listed-at .ensures) (p .1 .1 .0), p .1 .1 .1))
 
 enum-known-e : tie.Need-enum-known-e Inv-loop μ-loop
 enum-known-e c = search needs
@@ -111,7 +80,7 @@ later-requires c κs = search needs
 
 returns : tie.Need-returns Inv-loop μ-loop
 returns c =
-    sym (sym (counts (c .before .before)) ∙ sym (loop-first _ _ _ _) ∙ place-end _ _ _ _ _ _ (c .before .loop .inv) (c .if1 .taken) ∙ loop-none _ _ _ _)
+    sym (sym (loop-first _ _ _ _) ∙ place-end _ _ _ _ _ _ (c .before .loop .inv) (c .if1 .taken) ∙ loop-none _ _ _ _)
 
 returns-2 : tie.Need-returns-2 Inv-loop μ-loop
 returns-2 c =
@@ -120,7 +89,7 @@ returns-2 c =
     let g = t .before in
     let e = g .before in
     ap (λ (x : ℕ). At (e .before .loop .i) (interval x (k .e .given .0 .0 .0))) (c .later .ensures)
-    ∙ sym (sym (counts (begun e)) ∙ sym (loop-first _ _ _ _)
+    ∙ sym (sym (loop-first _ _ _ _)
     ∙ left-here _ _ _ _ _ _ (e .before .loop .inv) _ (here g)
     ∙ loop-found _ _ _ _ _ _ _ (sym (t .end-in .ensures) ∙ k .e .given .1))
 
@@ -131,8 +100,6 @@ find-offer-spec =
     Inv-loop
     μ-loop
     told-requires
-    terms-requires
-    wanted-requires
     loop-holds
     listed-at-requires
     end-in-requires

@@ -12,7 +12,7 @@ use Rattle.poly_seg.specs.Record.{delayList}
 use Rattle.poly_seg.specs.DryRun.{foundOf}
 use Rattle.poly_seg.specs.Granted.{chosenOf}
 use Rattle.howrekano.specs.Words.{polySegIn}
-use Rattle.howrekano.proofs.PolynomialDryRun.{search-of, search-asks, answer-asks}
+use Rattle.howrekano.proofs.PolynomialDryRun.{terms-asks, size-asks, search-asks, search-is, answer-asks}
 use Rattle.howrekano.proofs.polynomial.chosen.Statement.{statement}
 use Rattle.howrekano.proofs.polynomial.chosen.Tie as tie
 
@@ -26,23 +26,30 @@ lent c =
 bundle-holds : (c : tie.Else1) → let a = c .before .before .args in bundleOk (a .at) (a .bundle) ≡ true
 bundle-holds c = told-yes (c .before .ok-at .ensures) (c .if1 .left)
 
+-- where the search starts, and the call
+abbrev begin : tie.After-wanted → tie.Else1
+begin c = c .before .before .before .before .before
+
+abbrev start : tie.Else1 → tie.Start
+start c = c .before .before
+
 -- the mode is the record's
 mode-is : (c : tie.After-choices-at) → c .choices-at .result .mode .0 ≡ lent (c .before .before .before .before) .choices .mode .0
 mode-is c = ap (λ (h : Choices). h .mode .0) (c .choices-at .ensures)
 
--- where the search starts
-abbrev begin : tie.After-find-offer → tie.Else1
-begin c = c .before .before .before .before
-
--- it is the search of the record's mode
+-- the search over the terms and the size is the record's
 found-is : (c : tie.After-find-offer) →
-    let s = begin c .before .before in
+    let s = start (begin (c .before)) in
     c .find-offer .result ≡ foundOf (lent s) (s .args .at .0) (s .args .bundle .size .0)
-found-is c = c .find-offer .ensures ∙ search-of (lent (begin c .before .before)) _ _ (mode-is (c .before .before)) refl _ _
+found-is c =
+    let w = c .before in
+    let s = start (begin w) in
+    c .find-offer .ensures
+    ∙ search-is (lent s) (s .args .at) (s .args .bundle) (s .pre) (bundle-holds (begin w)) _ _ (mode-is (w .before .before .before)) refl _ _ (w .before .terms .ensures) (w .wanted .ensures)
 
 -- what the search found
 found : (c : tie.After-place) →
-    let s = begin (c .before .before) .before .before in
+    let s = start (begin (c .before .before .before)) in
     foundOf (lent s) (s .args .at .0) (s .args .bundle .size .0) ≡ At (c .place .given .0 .0) (c .place .given .0 .1 .0)
 found c = sym (found-is (c .before .before)) ∙ c .place .given .1
 
@@ -64,10 +71,22 @@ returns c =
 choices-at-requires : tie.Need-choices-at-requires
 choices-at-requires c κs = search needs
 
+terms-requires : tie.Need-terms-requires
+terms-requires c κs =
+    let e = c .before .before .before in
+    terms-asks _ _ _ (start e .pre) (bundle-holds e) _ _ (mode-is (c .before)) refl
+
+wanted-requires : tie.Need-wanted-requires
+wanted-requires c κs =
+    let m = c .before in
+    let e = m .before .before .before in
+    size-asks _ _ _ (start e .pre) (bundle-holds e) _ _ (mode-is (m .before)) refl
+
 find-offer-requires : tie.Need-find-offer-requires
 find-offer-requires c κs =
-    let e = c .before .before .before in
-    rw (mode-is (c .before)) (search-asks _ _ _ (e .before .before .pre) (bundle-holds e))
+    let m = c .before .before in
+    let e = begin c in
+    search-asks _ _ _ (start e .pre) (bundle-holds e) _ _ (mode-is (m .before)) refl _ _ (c .before .terms .ensures) (c .wanted .ensures)
 
 enum-known-place : tie.Need-enum-known-place
 enum-known-place c = search needs
@@ -83,19 +102,19 @@ unfolding chosenOf
 returns-2 c =
     let f = c .before .before .before in
     c .refused2 .ensures
-    ∙ sym (chosen-found _ _ _ (bundle-holds (begin f)) (sym (found-is f) ∙ c .before .enum-told .given .1))
+    ∙ sym (chosen-found _ _ _ (bundle-holds (begin (f .before))) (sym (found-is f) ∙ c .before .enum-told .given .1))
 
 answer-at-requires : tie.Need-answer-at-requires
 answer-at-requires c κs =
     let p = c .before in
-    let e = begin (p .before .before) in
+    let e = begin (p .before .before .before) in
     answer-asks _ _ _ (e .before .before .pre) (bundle-holds e) _ _ (found p)
 
 returns-3 : tie.Need-returns-3
 unfolding chosenOf
 returns-3 c =
     let p = c .before .before in
-    rw (c .answer-at .ensures) (sym (chosen-found _ _ _ (bundle-holds (begin (p .before .before))) (found p)))
+    rw (c .answer-at .ensures) (sym (chosen-found _ _ _ (bundle-holds (begin (p .before .before .before))) (found p)))
 
 pub chosen-spec : {M : Type 1} → statement M
 chosen-spec =
@@ -105,6 +124,8 @@ chosen-spec =
     refused-requires
     returns
     choices-at-requires
+    terms-requires
+    wanted-requires
     find-offer-requires
     enum-known-place
     enum-told

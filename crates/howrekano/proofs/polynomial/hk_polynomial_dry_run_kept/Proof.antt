@@ -10,7 +10,7 @@ use Rattle.poly_seg.specs.declared.PolySeg.{PolySeg}
 use Rattle.poly_seg.specs.Record.{recordOk}
 use Rattle.poly_seg.specs.DryRun.{foundOf}
 use Rattle.howrekano.specs.Words.{polynomeIn, polySegIn}
-use Rattle.howrekano.proofs.PolynomialDryRun.{search-of, dry-bundle, dry-found, search-asks, answer-asks}
+use Rattle.howrekano.proofs.PolynomialDryRun.{dry-bundle, dry-found, terms-asks, size-asks, search-asks, search-is, answer-asks}
 use Rattle.howrekano.proofs.polynomial.hk_polynomial_dry_run_kept.Statement.{statement}
 use Rattle.howrekano.proofs.polynomial.hk_polynomial_dry_run_kept.Tie as tie
 
@@ -27,30 +27,33 @@ keeps c = c .pre
 bundle-holds : (c : tie.Else1) → let a = c .before .before .before .args in bundleOk (a .at) (a .bundle) ≡ true
 bundle-holds c = told-yes (c .before .ok-at .ensures) (c .if1 .left)
 
--- the mode is the record's
-mode-is : (c : tie.After-choices-at) → c .choices-at .result .mode .0 ≡ lent (c .before .before .before .before .before) .choices .mode .0
-mode-is c = ap (λ (h : Choices). h .mode .0) (c .choices-at .ensures)
+-- where the search starts, and the call
+abbrev begin : tie.After-wanted → tie.Else1
+begin c = c .before .before .before .before .before
 
--- where the search starts
-abbrev begin : tie.After-find-offer → tie.Else1
-begin c = c .before .before .before .before
-
--- where the call starts, from there
 abbrev start : tie.Else1 → tie.Start
 start c = c .before .before .before
 
--- it is the search of the record's polynomial and mode
-search-is : (c : tie.After-find-offer) →
-    let s = start (begin c) in
-    c .find-offer .result ≡ foundOf (lent s) (s .args .at .0) (s .args .bundle .size .0)
-search-is c =
-    c .find-offer .ensures
-    ∙ search-of (lent (start (begin c))) _ _ (mode-is (c .before .before)) (begin c .before .before .polynome-at .ensures) _ _
+-- the mode is the record's
+mode-is : (c : tie.After-choices-at) → c .choices-at .result .mode .0 ≡ lent (start (c .before .before)) .choices .mode .0
+mode-is c = ap (λ (h : Choices). h .mode .0) (c .choices-at .ensures)
 
+-- the search over the terms and the size is the record's
+found-is : (c : tie.After-find-offer) →
+    let s = start (begin (c .before)) in
+    c .find-offer .result ≡ foundOf (lent s) (s .args .at .0) (s .args .bundle .size .0)
+found-is c =
+    let w = c .before in
+    let b = begin w in
+    let s = start b in
+    c .find-offer .ensures
+    ∙ search-is (lent s) (s .args .at) (s .args .bundle) (keeps s) (bundle-holds b) _ _ (mode-is (w .before .before .before)) (b .before .before .polynome-at .ensures) _ _ (w .before .terms .ensures) (w .wanted .ensures)
+
+-- what the search found
 found : (c : tie.After-send) →
-    let s = start (begin (c .before .before)) in
+    let s = start (begin (c .before .before .before)) in
     foundOf (lent s) (s .args .at .0) (s .args .bundle .size .0) ≡ At (c .send .given .0 .0) (c .send .given .0 .1 .0)
-found c = sym (search-is (c .before .before)) ∙ c .send .given .1
+found c = sym (found-is (c .before .before)) ∙ c .send .given .1
 
 polynome-at-requires : tie.Need-polynome-at-requires
 polynome-at-requires c κs = search needs
@@ -69,10 +72,22 @@ returns c =
 choices-at-requires : tie.Need-choices-at-requires
 choices-at-requires c κs = search needs
 
+terms-requires : tie.Need-terms-requires
+terms-requires c κs =
+    let e = c .before .before .before in
+    terms-asks _ _ _ (keeps (start e)) (bundle-holds e) _ _ (mode-is (c .before)) (e .before .before .polynome-at .ensures)
+
+wanted-requires : tie.Need-wanted-requires
+wanted-requires c κs =
+    let m = c .before in
+    let e = m .before .before .before in
+    size-asks _ _ _ (keeps (start e)) (bundle-holds e) _ _ (mode-is (m .before)) (e .before .before .polynome-at .ensures)
+
 find-offer-requires : tie.Need-find-offer-requires
 find-offer-requires c κs =
-    let e = c .before .before .before in
-    rw (mode-is (c .before), e .before .before .polynome-at .ensures) (search-asks _ _ _ (keeps (start e)) (bundle-holds e))
+    let m = c .before .before in
+    let e = begin c in
+    search-asks _ _ _ (keeps (start e)) (bundle-holds e) _ _ (mode-is (m .before)) (e .before .before .polynome-at .ensures) _ _ (c .before .terms .ensures) (c .wanted .ensures)
 
 enum-known-send : tie.Need-enum-known-send
 enum-known-send c = search needs
@@ -86,20 +101,20 @@ refused-requires-2 c κs = search needs
 returns-2 : tie.Need-returns-2
 returns-2 c =
     let f = c .before .before .before in
-    let e = begin f in
+    let e = begin (f .before) in
     c .refused2 .ensures
-    ∙ sym (dry-found _ _ _ (keeps (start e)) (bundle-holds e) (sym (search-is f) ∙ c .before .enum-told .given .1))
+    ∙ sym (dry-found _ _ _ (keeps (start e)) (bundle-holds e) (sym (found-is f) ∙ c .before .enum-told .given .1))
 
 answer-at-requires : tie.Need-answer-at-requires
 answer-at-requires c κs =
     let p = c .before in
-    let e = begin (p .before .before) in
+    let e = begin (p .before .before .before) in
     answer-asks _ _ _ (keeps (start e)) (bundle-holds e) _ _ (found p)
 
 returns-3 : tie.Need-returns-3
 returns-3 c =
     let p = c .before .before in
-    let e = begin (p .before .before) in
+    let e = begin (p .before .before .before) in
     c .answer-at .ensures ∙ sym (dry-found _ _ _ (keeps (start e)) (bundle-holds e) (found p))
 
 pub hk-polynomial-dry-run-kept-spec : {M : Type 1} → statement M
@@ -111,6 +126,8 @@ hk-polynomial-dry-run-kept-spec =
     refused-requires
     returns
     choices-at-requires
+    terms-requires
+    wanted-requires
     find-offer-requires
     enum-known-send
     enum-told

@@ -9,7 +9,6 @@ use mir.Facts.{toZ-ofZ}
 use Rattle.poly.specs.Poly.{stepMax, coefficient, termOf, term}
 use Rattle.poly.proofs.Abs.{sfits}
 use Rattle.poly.proofs.Back.{rd, coefficient-back}
-use Rattle.poly.proofs.Near.{InRangeOf}
 use Rattle.poly.proofs.Steps.{small0, small1, small2, small3}
 use Rattle.poly.proofs.Polynome.terms.Statement.{statement}
 use Rattle.poly.proofs.Polynome.terms.Tie as tie

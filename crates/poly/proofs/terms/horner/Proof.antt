@@ -1,7 +1,7 @@
 -- `poly::terms::horner` meets its contract: each step's result is read back as the value after that step.
 use mathlib.Core.Path.{_≡_, refl}
 use lib.IntN.{ℤ, pos, natAbs, _*ℤ_}
-use Prim.Native.Nat.{_≤_, _^_}
+use Prim.Native.Nat.{_≤_}
 use mir.Syntax.{w64}
 use mir.Val.{SFits}
 use mir.Facts.{toZ-ofZ}

@@ -6,7 +6,6 @@ use mathlib.Core.Path.{_≡_, sym, _∙_}
 use lib.ListN.{drop}
 use Rattle.units.specs.Logic.{allOf}
 use Rattle.units.specs.Limits.{listedMax, windowOk}
-use Rattle.units.proofs.Logic.{both-go, both-stop}
 use Rattle.units.proofs.Counted.{counted-none, counted-many, counted-is}
 use Rattle.contact.specs.Segments.{noDelay}
 use Rattle.poly_seg.specs.Choices.{choicesOk}
@@ -87,29 +86,16 @@ returns-7 c =
     let four = c .before .before in
     sym (record-listed _ (opens (four .before .before)) (unused-holds four) ∙ counted-many listedMax _ _ (c .before .if6 .left) (c .if7 .taken))
 
-bare-ok-requires : tie.Need-bare-ok-requires
-bare-ok-requires c κs = (c .if7 .left, opens (c .before .before .before .before) .window)
+listed-ok-requires : tie.Need-listed-ok-requires
+listed-ok-requires c κs = (c .if7 .left, opens (c .before .before .before .before) .window)
 
 returns-8 : tie.Need-returns-8
 returns-8 c =
-    let six = c .before .before in
-    let four = six .before .before in
-    sym (record-listed _ (opens (four .before .before)) (unused-holds four)
-    ∙ counted-is listedMax _ _ (six .before .if6 .left) (six .if7 .left)
-    ∙ both-stop _ _ (sym (c .before .bare-ok .ensures) ∙ not-true _ (c .if8 .taken)))
-
-unused-requires : tie.Need-unused-requires
-unused-requires c κs = c .before .before .if7 .left
-
-returns-9 : tie.Need-returns-9
-returns-9 c =
     let seven = c .before in
-    let six = seven .before .before in
-    let four = six .before .before in
-    c .unused .ensures
-    ∙ sym (record-listed _ (opens (four .before .before)) (unused-holds four)
-    ∙ counted-is listedMax _ _ (six .before .if6 .left) (six .if7 .left)
-    ∙ both-go _ _ (sym (seven .before .bare-ok .ensures) ∙ not-false _ (seven .if8 .left)))
+    let five = seven .before .before in
+    c .listed-ok .ensures
+    ∙ sym (record-listed _ (opens (five .before .before)) (unused-holds five)
+    ∙ counted-is listedMax _ _ (seven .before .if6 .left) (seven .if7 .left))
 
 pub ok-spec : {M : Type 1} → statement M
 ok-spec =
@@ -127,7 +113,5 @@ ok-spec =
     returns-5
     returns-6
     returns-7
-    bare-ok-requires
-    returns-8
-    unused-requires
-    returns-9)
+    listed-ok-requires
+    returns-8)
