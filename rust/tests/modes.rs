@@ -133,6 +133,35 @@ fn a_falling_line_carries_what_is_under_it() {
 // ---------------------------------------------------------------------------
 // What is opened, and what is refused
 
+/// The inputs of docs/DIFFERENCES.md 41 and docs/PROMISES.md, over [0, `end`).
+fn sent_within(end: u64, coefficients: [i64; 4], size: u64) -> [Result<(u64, u64), Refusal>; 2] {
+    let window = Interval { start: 0, end };
+    let delays = [DelaySegment {
+        start: 0,
+        end,
+        delay: 0,
+    }];
+    [PORTED, EXACT].map(|choices| {
+        let fit = polynome(coefficients, 0);
+        let contact = PolySeg::open_with(choices, window, fit, &delays).unwrap();
+        sent(&contact, 0, size)
+    })
+}
+
+#[test]
+fn fractions_are_dropped_in_mode_1_whichever_way_they_point() {
+    let nothing = Err(Refusal::NO_OFFER);
+    assert_eq!(sent_within(2, [0, 1, 0, 0], 1), [nothing, Ok((0, 2))]);
+    assert_eq!(sent_within(2, [1, -1, 0, 0], 1), [Ok((0, 1)), nothing]);
+}
+
+#[test]
+fn where_the_rate_falls_below_0_the_end_need_not_be_the_first_tick() {
+    assert_eq!(sent_within(10, [20, -16, 2, 0], 13)[1], Ok((0, 9)));
+    assert_eq!(sent_within(4, [13, -18, 6, 0], 6)[1], Ok((0, 2)));
+    assert_eq!(sent_within(3, [13, -18, 6, 0], 6)[1], Ok((0, 1)));
+}
+
 #[test]
 fn open_has_the_originals_choices() {
     assert_eq!(PolynomialChoices::default(), PORTED);
