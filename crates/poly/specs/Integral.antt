@@ -1,4 +1,4 @@
--- 02, R-6: a rate c0 + c1 t + c2 t^2 + c3 t^3 and its integral, in twelfths, so that it is whole. That it is the integral is proved from the last two.
+-- 02, R-6: a rate c0 + c1 t + c2 t^2 + c3 t^3 and its integral, in twelfths, so that it is whole. That it is the integral is proved from the rate and the mean rate (proofs/Slope).
 use lib.IntN.{ℤ, pos, _+ℤ_, _*ℤ_}
 
 -- twelve times the integral from 0 to d, which is c3 d^4 / 4 + c2 d^3 / 3 + c1 d^2 / 2 + c0 d
