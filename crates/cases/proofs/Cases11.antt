@@ -1,12 +1,12 @@
 -- The eleven cases of 01, computed from the definitions that the calls promise: of each row, the opening's 0 and its answers.
 use mathlib.Core.Path.{refl}
 use Rattle.units.specs.Logic.{both, allOf}
-use Rattle.units.specs.Limits.{windowOk, loadOk, bundleOk}
+use Rattle.units.specs.Limits.{oneOrTwo, windowOk, loadOk, bundleOk}
 use Rattle.units.specs.Answer.{sameDates, offers}
 use Rattle.units.specs.Arrays.{padded}
 use Rattle.segmentation.specs.Capacity.{rateAt, capOf}
 use Rattle.segmentation.specs.End.{reachOf as tickOf, closeOf, endOf}
-use Rattle.segmentation.specs.Delay.{fromDate, delaysOf}
+use Rattle.segmentation.specs.Delay.{belongs, fromDate, delaysOf}
 use Rattle.contact.specs.Choices.{choicesOk}
 use Rattle.contact.specs.Segments.{spans, covers, delaysOk, noVolume, noDelay}
 use Rattle.contact.specs.Open.{totalOf, volumeOk, openContact}
@@ -32,7 +32,7 @@ use Rattle.poly.specs.Integral.{integral12}
 use Rattle.poly.specs.Poly.{stepOf, hornerOf, capacityTo, termOf, magOf, rangeOk, coefficientsOk, polyOk}
 use Rattle.poly.specs.Search.{wantedOf, areaFrom, halveOf, findEnd}
 use Rattle.poly_seg.specs.Choices.{choicesOk as polynomialChoicesOk}
-use Rattle.poly_seg.specs.Open.{delayOk, delaysOk as polynomialDelaysOk, openOf as openPolynomial}
+use Rattle.poly_seg.specs.Open.{delayOk, delaysOk as polynomialDelaysOk, delaysBy, openOf as openPolynomial}
 use Rattle.poly_seg.specs.Record.{recordOk as polynomialRecordOk}
 use Rattle.poly_seg.specs.DryRun.{offerOf as offerPolynomial, dryRunOf as dryRunPolynomial}
 use Rattle.poly_seg.specs.Book.{bookOf as bookPolynomial}
@@ -49,5 +49,5 @@ use Rattle.cases.specs.Table.{table}
 use Rattle.cases.specs.Claim.{openingOf, listAs, answerOf, nextOf, answersOf, saidOf, Holds}
 
 pub cases : Holds table
-unfolding roomOf both allOf windowOk loadOk bundleOk sameDates offers padded rateAt capOf tickOf closeOf endOf fromDate delaysOf spans covers delaysOk noVolume noDelay totalOf volumeOk choicesOk openContact contactOk segmentOk listOk furtherOf offerOf leftOf cutOf cutList freeOk freeRecordOk openFree dryRunFree bookFree listFree follows coverOk noBooking reachOf beginOf brokenOf freeOf turnOf searchOf partsOf setOf setBookings bookingsOk priorityRecordOk openPriority dryRunPriority bookPriority listPriority integral12 stepOf hornerOf capacityTo termOf magOf rangeOk coefficientsOk polyOk wantedOf areaFrom halveOf findEnd polynomialChoicesOk delayOk polynomialDelaysOk openPolynomial polynomialRecordOk offerPolynomial dryRunPolynomial bookPolynomial listPolynomial rateOk budgetsOk openQueue queueRecordOk answerAt dryRunQueue addTo enqueueAt bookQueue listQueue keptFree keptPriority keptPolynomial keptQueue dryRunAs bookAs openingOf listAs answerOf nextOf answersOf saidOf Holds
-cases = (refl, refl, (refl, refl, (refl, refl, (refl, refl, (refl, refl, (refl, refl, (refl, refl, (refl, refl, (refl, refl, (refl, refl, (refl, refl, (refl, refl, (refl, refl, (refl, refl, (refl, refl, (refl, refl, (refl, refl, (refl, refl, tt))))))))))))))))))
+unfolding roomOf both allOf oneOrTwo windowOk loadOk bundleOk sameDates offers padded rateAt capOf tickOf closeOf endOf belongs fromDate delaysOf spans covers delaysOk noVolume noDelay totalOf volumeOk choicesOk openContact contactOk segmentOk listOk furtherOf offerOf leftOf cutOf cutList freeOk freeRecordOk openFree dryRunFree bookFree listFree follows coverOk noBooking reachOf beginOf brokenOf freeOf turnOf searchOf partsOf setOf setBookings bookingsOk priorityRecordOk openPriority dryRunPriority bookPriority listPriority integral12 stepOf hornerOf capacityTo termOf magOf rangeOk coefficientsOk polyOk wantedOf areaFrom halveOf findEnd polynomialChoicesOk delayOk polynomialDelaysOk delaysBy openPolynomial polynomialRecordOk offerPolynomial dryRunPolynomial bookPolynomial listPolynomial rateOk budgetsOk openQueue queueRecordOk answerAt dryRunQueue addTo enqueueAt bookQueue listQueue keptFree keptPriority keptPolynomial keptQueue dryRunAs bookAs openingOf listAs answerOf nextOf answersOf saidOf Holds
+cases = (refl, refl, (refl, refl, (refl, refl, (refl, refl, (refl, refl, (refl, refl, (refl, refl, (refl, refl, (refl, refl, (refl, refl, (refl, refl, (refl, refl, (refl, refl, (refl, refl, (refl, refl, (refl, refl, (refl, refl, (refl, refl, (refl, refl, (refl, refl, (refl, refl, (refl, refl, (refl, refl, tt)))))))))))))))))))))))

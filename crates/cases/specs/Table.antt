@@ -1,5 +1,5 @@
 -- 01, "Proved cases": the eleven cases, in 01's words above each row. Every row opens fresh, with A's figures where no others are given.
--- Below them cases that 02 asks again: R-5, under edition 2; R-6, in mode 2.
+-- Below them cases that 02 asks again: R-5, under edition 2; R-6, in mode 2; R-4, under both rules.
 use mathlib.Core.Bool.{true, false}
 use mathlib.Core.List.{List, [], _∷_}
 use lib.IntN.{pos}
@@ -10,7 +10,7 @@ use Rattle.segmentation.specs.declared.DelaySegment.{DelaySegment}
 use Rattle.contact.specs.Choices.{ported}
 use Rattle.poly_seg.specs.Choices.{ported as portedPolynomial}
 use Rattle.cases.specs.Words.{Case, free, priority, polynomial, queue, dryRun, book, list, done, _⇒_}
-use Rattle.cases.specs.Words.{case, edition, mode, rate, delay, flags, dates, sends, refusal, lists, queued, row, unbooked}
+use Rattle.cases.specs.Words.{case, edition, mode, rule, polynomialRule, rate, delay, flags, dates, sends, refusal, lists, queued, row, unbooked}
 
 -- contact A: [0,10), rate 10, delay 3
 abbrev pub A : Interval
@@ -21,6 +21,10 @@ A-rates = rate 0 10 10 ∷ []
 
 abbrev pub A-delays : List DelaySegment
 A-delays = delay 0 10 3 ∷ []
+
+-- case 7's delays: a boundary at 4
+abbrev pub two-delays : List DelaySegment
+two-delays = delay 0 4 10 ∷ delay 4 10 2 ∷ []
 
 abbrev pub table : List Case
 table =
@@ -65,7 +69,7 @@ table =
     ∷ dryRun 1 14 0 ⇒ sends 1 5 4 8
     ∷ [])
     -- 7. Delays [0,4) 10, [4,10) 2; A's rate; at 4, size 10: send 4,5, receive 14,7.
-    ∷ case 7 (free ported A A-rates (delay 0 4 10 ∷ delay 4 10 2 ∷ []))
+    ∷ case 7 (free ported A A-rates two-delays)
     (dryRun 4 10 0 ⇒ sends 4 5 14 7
     ∷ [])
     -- 8. Priority 1, at 2, size 30: [0,2) -1, [2,5) 1, [5,10) -1. Then at 0, size 30: priority 1 gets 5,8; priority 2 gets 0,3 and,
@@ -136,5 +140,33 @@ table =
     ∷ case 10 (polynomial (mode 2) (interval 0 10) (pos 10 ∷ pos 0 ∷ pos 0 ∷ pos 0 ∷ []) 0 A-delays)
     (dryRun 3 20 0 ⇒ sends 3 5 6 8
     ∷ dryRun 3 15 0 ⇒ sends 3 5 6 8
+    ∷ [])
+    -- 02, R-4, rule 1: case 7 of the other managers, and a send that ends on the boundary, which has the earlier delay too: 3,4, receive 13,14.
+    ∷ case 7 (priority ported A A-rates two-delays)
+    (dryRun 4 10 0 ⇒ sends 4 5 14 7
+    ∷ dryRun 3 10 0 ⇒ sends 3 4 13 14
+    ∷ [])
+    ∷ case 7 (polynomial portedPolynomial A (pos 10 ∷ pos 0 ∷ pos 0 ∷ pos 0 ∷ []) 0 two-delays)
+    (dryRun 4 10 0 ⇒ sends 4 5 14 7
+    ∷ dryRun 3 10 0 ⇒ sends 3 4 13 14
+    ∷ [])
+    -- Rule 2: the boundary has the later delay, receive 6,7 and 13,6; the window's end has the last: send 4,10, receive 6,12. The first dates are not offered.
+    ∷ case 7 (free (rule 2) A A-rates two-delays)
+    (dryRun 4 10 0 ⇒ sends 4 5 6 7
+    ∷ dryRun 3 10 0 ⇒ sends 3 4 13 6
+    ∷ dryRun 4 60 0 ⇒ sends 4 10 6 12
+    ∷ book 4 10 0 (dates 4 5 14 7) ⇒ done 9
+    ∷ book 4 10 0 (dates 4 5 6 7) ⇒ done 0
+    ∷ list ⇒ lists (row 0 4 40 ∷ row 5 10 50 ∷ [])
+    ∷ [])
+    ∷ case 7 (priority (rule 2) A A-rates two-delays)
+    (dryRun 4 10 0 ⇒ sends 4 5 6 7
+    ∷ dryRun 3 10 0 ⇒ sends 3 4 13 6
+    ∷ dryRun 4 60 0 ⇒ sends 4 10 6 12
+    ∷ [])
+    ∷ case 7 (polynomial (polynomialRule 2) A (pos 10 ∷ pos 0 ∷ pos 0 ∷ pos 0 ∷ []) 0 two-delays)
+    (dryRun 4 10 0 ⇒ sends 4 5 6 7
+    ∷ dryRun 3 10 0 ⇒ sends 3 4 13 6
+    ∷ dryRun 4 60 0 ⇒ sends 4 10 6 12
     ∷ [])
     ∷ []

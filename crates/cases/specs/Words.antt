@@ -56,11 +56,18 @@ case n o l = record { number = n; opening = o; steps = l }
 
 -- 02, R-5: the edition of the end rule
 abbrev pub edition : ℕ → Choices
-edition n = record { edition = record { 0 = n } }
+edition n = record { edition = record { 0 = n }; rule = record { 0 = 1 } }
+
+-- 02, R-4: the rule of the delays
+abbrev pub rule : ℕ → Choices
+rule n = record { edition = record { 0 = 1 }; rule = record { 0 = n } }
+
+abbrev pub polynomialRule : ℕ → PolynomialChoices
+polynomialRule n = record { mode = record { 0 = 1 }; rule = record { 0 = n } }
 
 -- 02, R-6: the mode in which capacity is counted
 abbrev pub mode : ℕ → PolynomialChoices
-mode n = record { mode = record { 0 = n } }
+mode n = record { mode = record { 0 = n }; rule = record { 0 = 1 } }
 
 abbrev pub rate : ℕ → ℕ → ℕ → RateSegment
 rate a b v = record { start = record { 0 = a }; end = record { 0 = b }; rate = record { 0 = v } }

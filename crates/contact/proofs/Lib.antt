@@ -8,5 +8,6 @@ pub mod Sound
 pub mod Total
 pub mod Fresh
 pub mod Unique
+pub mod Boundary
 pub mod Lookup
 pub mod Offers

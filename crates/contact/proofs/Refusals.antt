@@ -96,6 +96,11 @@ module _ (h : Choices) (w : Interval) (rates : List RateSegment) (m : ℕ) (dela
       (λ h2. unless-keeps P (volumeOk (take m rates)) _ _ (λ _. p6)
       (λ h3. unless-keeps P (delaysOk w k delays) _ _ (λ _. p5) (λ h4. p0 (record { choice = h0; window = h1; rate = h2; volume = h3; delay = h4 }))))))
 
+  -- it has nothing to look up, so 8 is none of its numbers
+  pub opening-never-8 : openContact h w rates m delays k .number ≡ 8 → ⊥
+  opening-never-8 =
+      opening-keeps (λ (o : Opened). o .number ≡ 8 → ⊥) (λ z. omega arith) (λ z. omega arith) (λ z. omega arith) (λ z. omega arith) (λ z. omega arith) (λ p z. omega arith)
+
   pub passed : openContact h w rates m delays k .number ≡ 0 → Passed h w rates m delays k
   passed =
       opening-keeps (λ (r : Opened). r .number ≡ 0 → Passed h w rates m delays k)

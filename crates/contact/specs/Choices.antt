@@ -1,13 +1,17 @@
--- 02, R-5: what an opening chooses and a record names. Each choice that a later request adds is one more line.
+-- 02, R-4 and R-5: what an opening chooses and a record names. Each choice that a later request adds is one more line.
 use mathlib.Core.Bool.{Bool}
-use lib.Dec.{leb}
+use Rattle.units.specs.Limits.{oneOrTwo}
 use Rattle.units.specs.Logic.{both}
 use Rattle.contact.specs.declared.Choices.{Choices}
 
 -- what 01 has, equal to the Rust
 abbrev pub ported : Choices
-ported = record { edition = record { 0 = 1 } }
+ported = record { edition = record { 0 = 1 }; rule = record { 0 = 1 } }
 
--- refusal 2, before all else: an edition other than 1 or 2
+-- a refused opening's
+abbrev pub unchosen : Choices
+unchosen = record { edition = record { 0 = 0 }; rule = record { 0 = 0 } }
+
+-- refusal 2, before all else: an edition or a rule other than 1 or 2
 unfoldable pub choicesOk : Choices → Bool
-choicesOk h = both (leb 1 (h .edition .0)) (leb (h .edition .0) 2)
+choicesOk h = both (oneOrTwo (h .edition .0)) (oneOrTwo (h .rule .0))

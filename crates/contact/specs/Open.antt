@@ -15,7 +15,7 @@ use Rattle.segmentation.specs.declared.DelaySegment.{DelaySegment}
 use Rattle.contact.specs.declared.Choices.{Choices}
 use Rattle.contact.specs.declared.Contact.{Contact}
 use Rattle.contact.specs.declared.Opened.{Opened}
-use Rattle.contact.specs.Choices.{choicesOk}
+use Rattle.contact.specs.Choices.{unchosen, choicesOk}
 use Rattle.contact.specs.Segments.{rateSpan, covers, delaysOk, volumeOf, zeroVolume, zeroDelay}
 
 abbrev pub rateOk : RateSegment → Bool
@@ -48,7 +48,7 @@ refusedContact n =
     record {
       number = n;
       total = record { 0 = 0 };
-      contact = record { choices = record { edition = record { 0 = 0 } }; window = interval 0 0; rates = replicate segmentsMax zeroVolume; «rate_count» = 0; delays = replicate segmentsMax zeroDelay; «delay_count» = 0 };
+      contact = record { choices = unchosen; window = interval 0 0; rates = replicate segmentsMax zeroVolume; «rate_count» = 0; delays = replicate segmentsMax zeroDelay; «delay_count» = 0 };
     }
 
 -- the opening of a contact

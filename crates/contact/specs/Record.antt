@@ -4,10 +4,14 @@ use mathlib.Core.Bool.{Bool}
 use lib.Dec.{eqb}
 use lib.ListN.{take, drop}
 use mathlib.Core.List.{List, map}
+use Rattle.units.specs.declared.Interval.{Interval}
+use Rattle.units.specs.declared.Offer.{Offer}
 use Rattle.units.specs.Logic.{both, allOf}
 use Rattle.segmentation.specs.declared.VolumeSegment.{VolumeSegment}
 use Rattle.segmentation.specs.declared.DelaySegment.{DelaySegment}
 use Rattle.segmentation.specs.declared.End.{End}
+use Rattle.segmentation.specs.declared.Delays.{Delays}
+use Rattle.segmentation.specs.Delay.{delaysOf, answerWith}
 use Rattle.segmentation.specs.End.{endOf}
 use Rattle.contact.specs.declared.Contact.{Contact}
 use Rattle.contact.specs.Segments.{rateSegment, wholeOf, noVolume, noDelay}
@@ -30,6 +34,13 @@ editionOf c = c .choices .edition .0
 
 abbrev pub endRule : Contact → ℕ → ℕ → ℕ → End
 endRule c = endOf (editionOf c) (ratesOf c)
+
+-- the delays at a send start and a send end by the rule that it names, and the answer with a send interval
+abbrev pub delaysAt : Contact → ℕ → ℕ → Delays
+delaysAt c = delaysOf (c .choices .rule .0) (delayList c)
+
+abbrev pub answerIn : Contact → Interval → Offer
+answerIn c = answerWith (delaysAt c)
 
 -- an opening with the contact's own figures is done, its volumes are rates times lengths, and nothing is in an unused place
 unfoldable pub contactOk : Contact → Bool

@@ -3,6 +3,7 @@ use opening::Total;
 use segmentation::DelaySegment;
 use segmentation::Edition;
 use segmentation::RateSegment;
+use segmentation::Rule;
 use segmentation::VolumeSegment;
 use units::Date;
 use units::Delay;
@@ -13,18 +14,18 @@ ghost use mathlib.Core.Path.{_≡_};
 ghost use mathlib.Core.Bool.{true};
 ghost use Prim.Native.Nat.{_≤_};
 ghost use Rattle.units.specs.Limits.{dateMax};
-ghost use Rattle.segmentation.specs.Delay.{answerWith};
 ghost use Rattle.contact.specs.Choices.{ported, choicesOk};
 ghost use Rattle.contact.specs.Open.{openContact, refusedContact};
-ghost use Rattle.contact.specs.Record.{contactOk, delayList};
+ghost use Rattle.contact.specs.Record.{contactOk, answerIn};
 
 pub mod opening;
 pub mod test;
 
-// What an opening chooses and the record names: the edition of the end rule.
+// What an opening chooses and the record names: the edition of the end rule and the rule of the delays.
 #[repr(C)]
 pub struct Choices {
     pub edition: Edition,
+    pub rule: Rule,
 }
 
 impl Choices {
@@ -34,6 +35,7 @@ impl Choices {
     {
         Choices {
             edition: Edition(Edition::FIRST),
+            rule: Rule(Rule::FIRST),
         }
     }
 
@@ -41,10 +43,10 @@ impl Choices {
     pub fn ok(self) -> bool
         ensures { λ r. ⌜ r ≡ choicesOk self ⌝ }
     {
-        if self.edition.0 < Edition::FIRST {
+        if !units::one_or_two(self.edition.0) {
             return false;
         }
-        self.edition.0 <= Edition::SECOND
+        units::one_or_two(self.rule.0)
     }
 }
 
@@ -73,6 +75,7 @@ impl Contact {
     {
         let unchosen = Choices {
             edition: Edition(0),
+            rule: Rule(0),
         };
         let none = Interval {
             start: Date(0),
@@ -177,10 +180,12 @@ impl Contact {
     // The answer to a dry run that found this send interval: its dates with the delays, or 8.
     pub fn answer(self, send: Interval) -> Offer
         requires { ⌜ contactOk self ≡ true ⌝ ∗ ⌜ (send .start .0 ≤ dateMax) × (send .end .0 ≤ dateMax) ⌝ }
-        ensures { λ r. ⌜ r ≡ answerWith (delayList self) send ⌝ }
+        ensures { λ r. ⌜ r ≡ answerIn self send ⌝ }
     {
+        let choices = self.choices;
+        let rule = choices.rule;
         let delays = self.delays;
         let k = self.delay_count;
-        segmentation::answer_at(delays, k, send)
+        segmentation::answer_at(rule, delays, k, send)
     }
 }

@@ -1,5 +1,5 @@
 // The free-volume manager: contact [0,10), rate 10, delay 3.
-use crate::edition;
+use crate::choices;
 use crate::out;
 use crate::over;
 use contact::Contact;
@@ -8,6 +8,7 @@ use seg::FreeVolume;
 use segmentation::DelaySegment;
 use segmentation::Edition;
 use segmentation::RateSegment;
+use segmentation::Rule;
 use segmentation::VolumeSegment;
 use units::Bundle;
 use units::Date;
@@ -206,9 +207,9 @@ fn delayed(r: FreeVolume, g: DelaySegment, h: DelaySegment, count: usize) -> Fre
     }
 }
 
-// The record with another edition.
-fn named(r: FreeVolume, edition: u64) -> FreeVolume {
-    let contact = edition::named(r.contact, edition);
+// The record with other choices.
+fn named(r: FreeVolume, edition: u64, rule: u64) -> FreeVolume {
+    let contact = choices::named(r.contact, edition, rule);
     let free = r.free;
     let room = r.room;
     FreeVolume {
@@ -279,11 +280,17 @@ fn contacts(r: FreeVolume) {
     // valid: two delay segments
     report(102, delayed(r, delay(0, 5, 3), delay(5, 10, 3), 2));
     // valid: edition 2, in which the send is 3,5, so that the booking stated is not offered
-    report(103, named(r, Edition::SECOND));
+    report(103, named(r, Edition::SECOND, Rule::FIRST));
     // editions: none, one too many, the largest
-    report(56, named(r, 0));
-    report(57, named(r, over::EDITION));
-    report(35, named(r, 18_446_744_073_709_551_615));
+    report(56, named(r, 0, Rule::FIRST));
+    report(57, named(r, over::EDITION, Rule::FIRST));
+    report(35, named(r, 18_446_744_073_709_551_615, Rule::FIRST));
+    // valid: rule 2, which has the same delay of these dates; rules: none, one too many, 255, the largest
+    report(104, named(r, Edition::FIRST, Rule::SECOND));
+    report(36, named(r, Edition::FIRST, 0));
+    report(37, named(r, Edition::FIRST, over::RULE));
+    report(38, named(r, Edition::FIRST, 255));
+    report(39, named(r, Edition::FIRST, 18_446_744_073_709_551_615));
 }
 
 pub fn run() {

@@ -1,5 +1,5 @@
 // Records built to break a rule, and valid ones at the border of one: what every call of each manager answers.
-pub mod edition;
+pub mod choices;
 pub mod free;
 pub mod out;
 pub mod over;

@@ -4,6 +4,7 @@ use legacy::Queue;
 use poly::Mode;
 use poly::Polynome;
 use segmentation::Edition;
+use segmentation::Rule;
 use units::Date;
 use units::Delay;
 use units::Interval;
@@ -31,6 +32,8 @@ pub const BUDGET: u64 = Queue::BUDGET_MAX + 1;
 pub const QUEUE: u64 = Queue::QUEUE_MAX + 1;
 
 pub const EDITION: u64 = Edition::SECOND + 1;
+
+pub const RULE: u64 = Rule::SECOND + 1;
 
 pub const MODE: u64 = Mode::EXACT + 1;
 

@@ -8,6 +8,7 @@ use poly::Polynome;
 use poly_seg::Choices;
 use poly_seg::PolySeg;
 use segmentation::DelaySegment;
+use segmentation::Rule;
 use segmentation::VolumeSegment;
 use units::Bundle;
 use units::Date;
@@ -135,9 +136,12 @@ fn delays(r: PolySeg, s: DelaySegment, t: DelaySegment, count: usize) -> PolySeg
     other
 }
 
-// The record with another mode.
-fn named(r: PolySeg, mode: u64) -> PolySeg {
-    let made = Choices { mode: Mode(mode) };
+// The record with other choices.
+fn named(r: PolySeg, mode: u64, rule: u64) -> PolySeg {
+    let made = Choices {
+        mode: Mode(mode),
+        rule: Rule(rule),
+    };
     let mut other = r;
     other.choices = made;
     other
@@ -198,7 +202,7 @@ fn broken_rules(r: PolySeg) {
 }
 
 fn modes(r: PolySeg) {
-    let exact = named(r, Mode::EXACT);
+    let exact = named(r, Mode::EXACT, Rule::FIRST);
     // valid: mode 2, which offers the same of this polynomial; the highest first and last coefficient of its range rule
     report(108, exact);
     report(109, polynome(exact, over::EXACT_WITHIN_TEN, 0));
@@ -208,10 +212,31 @@ fn modes(r: PolySeg) {
     report(50, cubic(exact, over::EXACT_LAST_OF_TEN));
     report(51, polynome(exact, over::FIRST_WITHIN_TEN, 0));
     // modes: none, one too many, 255, the largest
-    report(52, named(r, 0));
-    report(53, named(r, over::MODE));
-    report(54, named(r, 255));
-    report(55, named(r, 18_446_744_073_709_551_615));
+    report(52, named(r, 0, Rule::FIRST));
+    report(53, named(r, over::MODE, Rule::FIRST));
+    report(54, named(r, 255, Rule::FIRST));
+    report(55, named(r, 18_446_744_073_709_551_615, Rule::FIRST));
+}
+
+fn rules(r: PolySeg) {
+    let second = named(r, Mode::PORTED, Rule::SECOND);
+    let none = delay(0, 0, 0);
+    // valid: rule 2, with one delay segment and with two that cover the window
+    report(111, second);
+    report(112, delays(second, delay(0, 5, 3), delay(5, 10, 3), 2));
+    // what rule 1 takes: no delay, a gap, an overlap, late, early, past the window, an empty one
+    report(40, delays(second, none, none, 0));
+    report(41, delays(second, delay(0, 5, 3), delay(6, 10, 3), 2));
+    report(42, delays(second, delay(0, 5, 3), delay(4, 10, 3), 2));
+    report(43, delays(second, delay(1, 10, 3), none, 1));
+    report(44, delays(second, delay(0, 9, 3), none, 1));
+    report(45, delays(second, delay(0, 11, 3), none, 1));
+    report(46, delays(second, delay(0, 0, 3), delay(0, 10, 3), 2));
+    // rules: none, one too many, 255, the largest
+    report(36, named(r, Mode::PORTED, 0));
+    report(37, named(r, Mode::PORTED, over::RULE));
+    report(38, named(r, Mode::PORTED, 255));
+    report(39, named(r, Mode::PORTED, 18_446_744_073_709_551_615));
 }
 
 pub fn run() {
@@ -219,4 +244,5 @@ pub fn run() {
     valid(r);
     broken_rules(r);
     modes(r);
+    rules(r);
 }

@@ -1,5 +1,5 @@
 // The priority manager: contact [0,10), rate 10, delay 3. Its contact part is tested as the free-volume manager's.
-use crate::edition;
+use crate::choices;
 use crate::out;
 use crate::over;
 use bookings::BookingSegment;
@@ -9,6 +9,7 @@ use pseg::PrioritySeg;
 use segmentation::DelaySegment;
 use segmentation::Edition;
 use segmentation::RateSegment;
+use segmentation::Rule;
 use units::Bundle;
 use units::Date;
 use units::Delay;
@@ -97,9 +98,9 @@ fn listing(r: PrioritySeg, g: BookingSegment, h: BookingSegment, count: usize) -
     }
 }
 
-// The record with another edition.
-fn named(r: PrioritySeg, edition: u64) -> PrioritySeg {
-    let contact = edition::named(r.contact, edition);
+// The record with other choices.
+fn named(r: PrioritySeg, edition: u64, rule: u64) -> PrioritySeg {
+    let contact = choices::named(r.contact, edition, rule);
     let bookings = r.bookings;
     PrioritySeg {
         contact: contact,
@@ -135,8 +136,14 @@ pub fn run() {
     report(76, listing(r, whole, segment(0, 1, 0), 1));
     report(77, listing(r, whole, segment(0, 0, 1), 1));
     // valid: edition 2, in which the send is 3,5, so that the booking stated is not offered; editions: none, one too many, the largest
-    report(103, named(r, Edition::SECOND));
-    report(78, named(r, 0));
-    report(79, named(r, over::EDITION));
-    report(80, named(r, 18_446_744_073_709_551_615));
+    report(103, named(r, Edition::SECOND, Rule::FIRST));
+    report(78, named(r, 0, Rule::FIRST));
+    report(79, named(r, over::EDITION, Rule::FIRST));
+    report(80, named(r, 18_446_744_073_709_551_615, Rule::FIRST));
+    // valid: rule 2, which has the same delay of these dates; rules: none, one too many, 255, the largest
+    report(104, named(r, Edition::FIRST, Rule::SECOND));
+    report(81, named(r, Edition::FIRST, 0));
+    report(82, named(r, Edition::FIRST, over::RULE));
+    report(83, named(r, Edition::FIRST, 255));
+    report(84, named(r, Edition::FIRST, 18_446_744_073_709_551_615));
 }

@@ -32,7 +32,7 @@ use Rattle.earliest.specs.Earliest.{StartIn, NoEmpty, Earliest}
 use Rattle.earliest.specs.Rest.{Rest}
 use Rattle.earliest.proofs.Earliest.{dry-earliest}
 use Rattle.earliest.proofs.Booking.{book-earliest, book-told}
-use Rattle.earliest.proofs.Never8.{open-never-8, dry-never-8, book-never-8, list-never-8}
+use Rattle.pseg.proofs.Never8.{open-never-8, dry-never-8, book-never-8, list-never-8}
 
 module _ (r : PrioritySeg) (at : Date) (b : Bundle) (ok : recordOk r ≡ true) (none : NoEmpty r) where
   -- the dry run: whatever answer its promise allows is the earliest place

@@ -73,7 +73,7 @@ module _ (r : PrioritySeg) (at : Date) (b : Bundle) where
 
     earliest-by : (x : Run) → runOf r (at .0) b ≡ x → Tells (StartIn r at b) x → Earliest r at b (answerTo r x)
     unfolding Tells
-    earliest-by (Sent send) e q = offer-earliest (answerTo r (Sent send)) (sent r b ok some at send e .0) (rw (sent r b ok some at send e .1) q)
+    earliest-by (Sent send) e q = offer-earliest (answerTo r (Sent send)) (sent r b ok some at send e .number) (rw (sent r b ok some at send e .sends) q)
     earliest-by (Going send) e q = none-earliest (answerTo r (Going send)) refl q
     earliest-by Idle e q = none-earliest (answerTo r Idle) refl q
 

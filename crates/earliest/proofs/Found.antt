@@ -10,13 +10,13 @@ use Rattle.units.specs.declared.Offer.{Offer}
 use Rattle.units.specs.Answer.{refused}
 use Rattle.segmentation.specs.declared.End.the-variants.{At}
 use Rattle.contact.specs.Record.{editionOf, ratesOf}
-use Rattle.contact.proofs.Lookup.{contact-answers}
+use Rattle.contact.proofs.Lookup.{Answers}
 use Rattle.bookings.specs.declared.Run.{Run}
 use Rattle.bookings.specs.declared.Run.the-variants.{Idle, Going, Sent}
 use Rattle.pseg.specs.declared.PrioritySeg.{PrioritySeg}
 use Rattle.pseg.specs.Record.{recordOk}
 use Rattle.pseg.specs.DryRun.{runOf, answerTo}
-use Rattle.pseg.proofs.Facts.{facts, found-free}
+use Rattle.pseg.proofs.Facts.{facts, found-free, found-answers}
 use Rattle.earliest.specs.Earliest.{endFrom}
 use Rattle.earliest.specs.Rest.{Rest}
 use Rattle.earliest.proofs.Rule.{Orderly, end-orderly}
@@ -41,11 +41,11 @@ module _ (r : PrioritySeg) (b : Bundle) where
         ends : endFrom r b (send .start .0) ≡ At (send .end)
         ends = found-free r (facts r ok) (at .0) b send e .ends
 
-        pub sent : (answerTo r (Sent send) .number ≡ 0) × (answerTo r (Sent send) .dates .send ≡ send)
-        sent = contact-answers (r .contact) (facts r ok .contact) send (rule .forth _ _ ends) (rule .by _ _ ends)
+        pub sent : Answers send (answerTo r (Sent send))
+        sent = found-answers r (facts r ok) (at .0) b send e some
 
         sent-rest : Rest r b (answerTo r (Sent send))
-        sent-rest = record { ends = λ z. rw (sent .1) ends; receives = λ z. rw (sent .1) refl; zero = λ z. absurd (omega (arith, sent .0)) }
+        sent-rest = record { ends = λ z. rw (sent .sends) ends; receives = λ z. rw (sent .sends) refl; zero = λ z. absurd (omega (arith, sent .number)) }
 
       pub rest-by : (x : Run) → runOf r (at .0) b ≡ x → Rest r b (answerTo r x)
       rest-by (Sent send) e = sent-rest send e

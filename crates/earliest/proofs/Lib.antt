@@ -5,7 +5,6 @@ pub mod Unique
 pub mod Found
 pub mod Earliest
 pub mod Booking
-pub mod Never8
 pub mod Calls
 pub mod Again
 pub mod Lent

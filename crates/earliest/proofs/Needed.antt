@@ -11,7 +11,7 @@ use lib.Signed.{_<ℤ_, ltZ-yes}
 use Rattle.units.specs.declared.Date.{Date}
 use Rattle.units.specs.declared.Bundle.{Bundle}
 use Rattle.units.specs.declared.Offer.{Offer}
-use Rattle.units.specs.Limits.{segmentsMax, windowOk, loadOk, bundleOk}
+use Rattle.units.specs.Limits.{segmentsMax, oneOrTwo, windowOk, loadOk, bundleOk}
 use Rattle.units.specs.Logic.{both, allOf}
 use Rattle.units.specs.Answer.{interval, refused, offered, sameDates, offers}
 use Rattle.units.specs.Arrays.{padded}
@@ -20,7 +20,7 @@ use Rattle.segmentation.specs.declared.DelaySegment.{DelaySegment}
 use Rattle.segmentation.specs.declared.End.the-variants.{At}
 use Rattle.segmentation.specs.Capacity.{rateAt, capOf}
 use Rattle.segmentation.specs.End.{reachOf as tickOf, closeOf, endOf}
-use Rattle.segmentation.specs.Delay.{fromDate, delaysOf}
+use Rattle.segmentation.specs.Delay.{belongs, fromDate, delaysOf}
 use Rattle.contact.specs.Choices.{ported, choicesOk}
 use Rattle.contact.specs.Segments.{zeroDelay, spans, covers, delaysOk, noVolume, noDelay}
 use Rattle.contact.specs.Open.{totalOf, volumeOk, contactOf, openContact}
@@ -93,7 +93,7 @@ abbrev Figures : Type 0
 Figures = (endFrom hiding (bundle 4 0) 0 ≡ At (date 2)) × (valueAt hiding 0 ≡ negsuc 0) × (valueAt hiding 1 ≡ negsuc 0) × (valueAt offering 1 ≡ pos 1)
 
 pub computed : Reached × Answers × Figures
-unfolding both allOf windowOk loadOk bundleOk sameDates offers padded rateAt capOf tickOf closeOf endOf fromDate delaysOf spans covers delaysOk noVolume noDelay totalOf volumeOk choicesOk openContact contactOk follows coverOk levelAt noBooking reachOf beginOf brokenOf freeOf turnOf searchOf partsOf setOf setBookings bookingsOk recordOk openOf dryRunOf bookOf
+unfolding both allOf oneOrTwo windowOk loadOk bundleOk sameDates offers padded rateAt capOf tickOf closeOf endOf belongs fromDate delaysOf spans covers delaysOk noVolume noDelay totalOf volumeOk choicesOk openContact contactOk follows coverOk levelAt noBooking reachOf beginOf brokenOf freeOf turnOf searchOf partsOf setOf setBookings bookingsOk recordOk openOf dryRunOf bookOf
 computed = ((refl, refl, refl, refl), ((refl, refl), refl, (refl, refl), refl), (refl, refl, refl, refl))
 
 answers : Answers

@@ -7,8 +7,7 @@ use Rattle.units.specs.declared.Date.{Date}
 use Rattle.units.specs.declared.Bundle.{Bundle}
 use Rattle.units.specs.declared.Offer.{Offer}
 use Rattle.units.specs.Answer.{interval}
-use Rattle.segmentation.specs.Delay.{answerWith}
-use Rattle.contact.specs.Record.{delayList}
+use Rattle.contact.specs.Record.{answerIn}
 use Rattle.pseg.specs.declared.PrioritySeg.{PrioritySeg}
 use Rattle.earliest.specs.Start.{Least}
 use Rattle.earliest.specs.Earliest.{endFrom, Earliest}
@@ -41,6 +40,6 @@ module _ (r : PrioritySeg) (at : Date) (b : Bundle) (o e : Offer) (h : Earliest 
       let end = one-end (o .dates .send .end) (e .dates .send .end) (endFrom r b (e .dates .send .start .0)) (rw start at (x .ends z)) (y .ends zero) in
       let send : o .dates .send ≡ e .dates .send =
       ap (λ (n : ℕ). interval n (o .dates .send .end .0)) start ∙ ap (λ (n : ℕ). interval (e .dates .send .start .0) n) end in
-      x .receives z ∙ ap (answerWith (delayList (r .contact))) send ∙ sym (y .receives zero))
+      x .receives z ∙ ap (answerIn (r .contact)) send ∙ sym (y .receives zero))
       (λ (z : o .number ≡ 7). x .zero z ∙ sym (y .zero (same-none z)))
       (h .either)

@@ -4,13 +4,12 @@ use Rattle.units.specs.declared.Bundle.{Bundle}
 use Rattle.units.specs.declared.Offer.{Offer}
 use Rattle.units.specs.Answer.{refused}
 use Rattle.segmentation.specs.declared.End.the-variants.{At}
-use Rattle.segmentation.specs.Delay.{answerWith}
-use Rattle.contact.specs.Record.{delayList}
+use Rattle.contact.specs.Record.{answerIn}
 use Rattle.pseg.specs.declared.PrioritySeg.{PrioritySeg}
 use Rattle.earliest.specs.Earliest.{endFrom}
 
 -- an offer ends where the end rule says and is received after the delays; a refusal has zero dates
 pub record Rest (r : PrioritySeg) (b : Bundle) (o : Offer) : Type 0 where
   pub ends : o .number ≡ 0 → endFrom r b (o .dates .send .start .0) ≡ At (o .dates .send .end)
-  pub receives : o .number ≡ 0 → o ≡ answerWith (delayList (r .contact)) (o .dates .send)
+  pub receives : o .number ≡ 0 → o ≡ answerIn (r .contact) (o .dates .send)
   pub zero : o .number ≡ 7 → o ≡ refused 7

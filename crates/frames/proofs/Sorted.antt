@@ -110,14 +110,27 @@ module _ (line : List ℕ) (h : Held) where
   unfolding changes changeOf kindFrame on dequeueFrame queueingOf
   at-20 e = fits told (hasBytes line 10) Queueing refl (queueing (sym (pick-no _ _ _ (ne-eqb (byteAt line 0) 19 (λ z. omega arith)))))
 
+  at-33 : Agree 33
+  unfolding changes changeOf kindFrame on freeFrame byFrame
+  at-33 = fits told (hasBytes line (openingLength line)) Free refl refl
+
+  at-34 : Agree 34
+  unfolding changes changeOf kindFrame on priorityFrame byFrame
+  at-34 = fits told (hasBytes line (openingLength line)) Priority refl refl
+
+  at-35 : Agree 35
+  unfolding changes changeOf kindFrame on polynomialFrame byFrame
+  at-35 = fits told (hasBytes line (polynomialLength line)) Polynomial refl refl
+
   -- a kind that stands in neither table
   at-none : (byteAt line 0 ≡ 1 → ⊥) → (byteAt line 0 ≡ 2 → ⊥) → (byteAt line 0 ≡ 3 → ⊥) → (byteAt line 0 ≡ 4 → ⊥) → (byteAt line 0 ≡ 16 → ⊥)
-      → (byteAt line 0 ≡ 17 → ⊥) → (byteAt line 0 ≡ 18 → ⊥) → (byteAt line 0 ≡ 19 → ⊥) → (byteAt line 0 ≡ 20 → ⊥) → (byteAt line 0 ≡ 21 → ⊥) → Agree (byteAt line 0)
+      → (byteAt line 0 ≡ 17 → ⊥) → (byteAt line 0 ≡ 18 → ⊥) → (byteAt line 0 ≡ 19 → ⊥) → (byteAt line 0 ≡ 20 → ⊥) → (byteAt line 0 ≡ 21 → ⊥)
+      → (byteAt line 0 ≡ 33 → ⊥) → (byteAt line 0 ≡ 34 → ⊥) → (byteAt line 0 ≡ 35 → ⊥) → Agree (byteAt line 0)
   unfolding changes byFrame
-  at-none a b d e f g i j l m =
-      pick-no _ _ _ (or-no a (or-no b (or-no d (or-no e (or-no g (or-no j (ne-eqb _ _ l)))))))
+  at-none a b d e f g i j l m o p q =
+      pick-no _ _ _ (or-no a (or-no b (or-no d (or-no e (or-no g (or-no j (or-no l (or-no o (or-no p (ne-eqb _ _ q))))))))))
       ∙ ap (λ (text : List ℕ). (text, h)) (sym (show-none line h refl f i m))
-      ∙ ap (λ (frame : Frame). byFrame frame line h) (frame-none line refl a b d e f g i j l m)
+      ∙ ap (λ (frame : Frame). byFrame frame line h) (frame-none line refl a b d e f g i j l m o p q)
 
   -- the kind is this number, or another
   by : (n : ℕ) → (byteAt line 0 ≡ n → Agree n) → ((byteAt line 0 ≡ n → ⊥) → Agree (byteAt line 0)) → Agree (byteAt line 0)
@@ -135,7 +148,10 @@ module _ (line : List ℕ) (h : Held) where
       (λ i. by 19 at-19
       (λ j. by 20 at-20
       (λ l. by 21 (λ q. at-21)
-      (λ m. at-none a b d e f g i j l m))))))))))
+      (λ m. by 33 (λ q. at-33)
+      (λ o. by 34 (λ q. at-34)
+      (λ p. by 35 (λ q. at-35)
+      (λ q. at-none a b d e f g i j l m o p q)))))))))))))
 
   pub sorted : stepOf line h ≡ byFrame (frameOf line) line h
   unfolding stepOf frameOf byFrame

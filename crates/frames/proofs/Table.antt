@@ -31,12 +31,12 @@ module _ (line : List ℕ) {k : ℕ} (read : k ≡ byteAt line 0) where
   pub frame-as : {n : ℕ} {r : Frame} → k ≡ n → r ≡ kindFrame n line → r ≡ kindFrame (byteAt line 0) line
   frame-as e q = q ∙ ap (λ (j : ℕ). kindFrame j line) (sym e ∙ read)
 
-  pub frame-none : (k ≡ 1 → ⊥) → (k ≡ 2 → ⊥) → (k ≡ 3 → ⊥) → (k ≡ 4 → ⊥) → (k ≡ 16 → ⊥) → (k ≡ 17 → ⊥) → (k ≡ 18 → ⊥) → (k ≡ 19 → ⊥) → (k ≡ 20 → ⊥) → (k ≡ 21 → ⊥)
+  pub frame-none : (k ≡ 1 → ⊥) → (k ≡ 2 → ⊥) → (k ≡ 3 → ⊥) → (k ≡ 4 → ⊥) → (k ≡ 16 → ⊥) → (k ≡ 17 → ⊥) → (k ≡ 18 → ⊥) → (k ≡ 19 → ⊥) → (k ≡ 20 → ⊥) → (k ≡ 21 → ⊥) → (k ≡ 33 → ⊥) → (k ≡ 34 → ⊥) → (k ≡ 35 → ⊥)
       → Wrong ≡ kindFrame (byteAt line 0) line
   unfolding kindFrame
-  frame-none a b d e f g i j l m =
+  frame-none a b d e f g i j l m o p q =
       frame-as refl
-      (sym (miss _ a (miss _ b (miss _ d (miss _ e (miss _ f (miss _ g (miss _ i (miss _ j (miss _ l (miss _ m refl)))))))))))
+      (sym (miss _ a (miss _ b (miss _ d (miss _ e (miss _ f (miss _ g (miss _ i (miss _ j (miss _ l (miss _ m (miss _ o (miss _ p (miss _ q refl))))))))))))))
 
 module _ (line : List ℕ) (h : Held) {k : ℕ} (read : k ≡ byteAt line 0) where
   of-number : {A : Type 0} (f : ℕ → A) {n : ℕ} {r : A} → k ≡ n → r ≡ f n → r ≡ f (byteAt line 0)
@@ -48,27 +48,30 @@ module _ (line : List ℕ) (h : Held) {k : ℕ} (read : k ≡ byteAt line 0) whe
   pub show-as : {n : ℕ} {text : List ℕ} → k ≡ n → text ≡ showOf n line h → text ≡ showOf (byteAt line 0) line h
   show-as e q = of-number (λ (j : ℕ). showOf j line h) e q
 
-  pub change-none : (k ≡ 1 → ⊥) → (k ≡ 2 → ⊥) → (k ≡ 3 → ⊥) → (k ≡ 4 → ⊥) → (k ≡ 17 → ⊥) → (k ≡ 19 → ⊥) → (k ≡ 20 → ⊥)
+  pub change-none : (k ≡ 1 → ⊥) → (k ≡ 2 → ⊥) → (k ≡ 3 → ⊥) → (k ≡ 4 → ⊥) → (k ≡ 17 → ⊥) → (k ≡ 19 → ⊥) → (k ≡ 20 → ⊥) → (k ≡ 33 → ⊥) → (k ≡ 34 → ⊥) → (k ≡ 35 → ⊥)
       → noFrame h ≡ changeOf (byteAt line 0) line h
   unfolding changeOf
-  change-none a b d e f g i = change-as refl (sym (miss _ a (miss _ b (miss _ d (miss _ e (miss _ f (miss _ g (miss _ i refl))))))))
+  change-none a b d e f g i j l m =
+      change-as refl (sym (miss _ a (miss _ b (miss _ d (miss _ e (miss _ f (miss _ g (miss _ i (miss _ j (miss _ l (miss _ m refl)))))))))))
 
   pub show-none : (k ≡ 16 → ⊥) → (k ≡ 18 → ⊥) → (k ≡ 21 → ⊥) → numberLine 255 ≡ showOf (byteAt line 0) line h
   unfolding showOf
   show-none a b d = show-as refl (sym (miss _ a (miss _ b (miss _ d refl))))
 
--- the code's stretches: 1 to 4, 17, 19 to 20
+-- the code's stretches: 1 to 4, 17, 19 to 20, 33 to 35
 module _ {k b : ℕ} (read : k ≡ b) where
-  pub changes-no : (1 ≤ k → 5 ≤ k) → (k ≡ 17 → ⊥) → (19 ≤ k → 21 ≤ k) → false ≡ changes b
+  pub changes-no : (1 ≤ k → 5 ≤ k) → (k ≡ 17 → ⊥) → (19 ≤ k → 21 ≤ k) → (33 ≤ k → 36 ≤ k) → false ≡ changes b
   unfolding changes
-  changes-no low booking high =
+  changes-no low booking high top =
       let early : (n : ℕ) → 1 ≤ n → n < 5 → k ≡ n → ⊥ = λ n a b e. omega (arith, low (omega arith)) in
       let late : (n : ℕ) → 19 ≤ n → n < 21 → k ≡ n → ⊥ = λ n a b e. omega (arith, high (omega arith)) in
+      let ruled : (n : ℕ) → 33 ≤ n → n < 36 → k ≡ n → ⊥ = λ n a b e. omega (arith, top (omega arith)) in
       sym (or-no (early 1 (omega arith) (omega arith))
       (or-no (early 2 (omega arith) (omega arith))
       (or-no (early 3 (omega arith) (omega arith))
       (or-no (early 4 (omega arith) (omega arith))
-      (or-no booking (or-no (late 19 (omega arith) (omega arith)) (ne-eqb _ _ (late 20 (omega arith) (omega arith)))))))))
+      (or-no booking (or-no (late 19 (omega arith) (omega arith)) (or-no (late 20 (omega arith) (omega arith))
+      (or-no (ruled 33 (omega arith) (omega arith)) (or-no (ruled 34 (omega arith) (omega arith)) (ne-eqb _ _ (ruled 35 (omega arith) (omega arith))))))))))))
       ∙ ap changes read
 
   is : (n : ℕ) → true ≡ changes n → k ≡ n → true ≡ changes b
@@ -88,3 +91,7 @@ module _ {k b : ℕ} (read : k ≡ b) where
   pub changes-late : 19 ≤ k → k < 21 → true ≡ changes b
   unfolding changes
   changes-late h q = ⊎-elim (is 19 refl) (λ other. is 20 refl (omega arith)) (eq-or-ne k 19)
+
+  pub changes-ruled : 33 ≤ k → k < 36 → true ≡ changes b
+  unfolding changes
+  changes-ruled h q = ⊎-elim (is 33 refl) (λ one. ⊎-elim (is 34 refl) (λ two. is 35 refl (omega arith)) (eq-or-ne k 34)) (eq-or-ne k 33)

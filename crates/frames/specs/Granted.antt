@@ -33,7 +33,10 @@ kindFrame k line =
     (on k 19 (whenOf (hasBytes line 10) Queueing)
     (on k 20 (whenOf (hasBytes line 10) Queueing)
     (on k 21 (whenOf (hasBytes line 1) Room)
-    Wrong)))))))))
+    (on k 33 (whenOf (hasBytes line (openingLength line)) Free)
+    (on k 34 (whenOf (hasBytes line (openingLength line)) Priority)
+    (on k 35 (whenOf (hasBytes line (polynomialLength line)) Polynomial)
+    Wrong))))))))))))
 
 unfoldable pub frameOf : List ℕ → Frame
 frameOf line = unless (isLine line) Wrong (kindFrame (byteAt line 0) line)

@@ -1,8 +1,11 @@
--- 01, "The trace program", frames 01 to 04: what the layout gives is opened; a line of another length, ff.
+-- 01, "The trace program", frames 01 to 04, and 02, R-4, frames 21 to 23: what the layout gives is opened; a line of another length, ff.
 use Prim.Native.Nat.{ℕ}
 use mathlib.Core.List.{List}
 use Rattle.units.specs.Logic.{unless}
+use Rattle.segmentation.specs.declared.Rule.{Rule}
+use Rattle.contact.specs.declared.Choices.{Choices}
 use Rattle.contact.specs.Choices.{ported}
+use Rattle.poly_seg.specs.declared.Choices.{Choices as PolynomialChoices}
 use Rattle.poly_seg.specs.Choices.{ported as portedPolynomial}
 use Rattle.seg.specs.declared.Opened.{Opened as FreeOpened}
 use Rattle.seg.specs.Open.{openOf as openFree}
@@ -27,11 +30,18 @@ use Rattle.held.specs.State.{refusedCall, keptFree, keptPriority, keptPolynomia
 abbrev pub noFrame : Held → Done
 noFrame h = refusedCall h 255
 
+-- a frame states its delay rule, and nothing else of what an opening chooses
+abbrev pub choosing : Rule → Choices
+choosing rule = record { edition = ported .edition; rule = rule }
+
+abbrev pub choosingPolynomial : Rule → PolynomialChoices
+choosingPolynomial rule = record { mode = portedPolynomial .mode; rule = rule }
+
 -- the free-volume opening with the frame's figures
 unfoldable pub freeOpened : Opening → FreeOpened
-freeOpened f = openFree ported (f .window) (f .rates) (f .«rate_count») (f .delays) (f .«delay_count»)
+freeOpened f = openFree (choosing (f .rule)) (f .window) (f .rates) (f .«rate_count») (f .delays) (f .«delay_count»)
 
--- 01, and a refused opening keeps the old record
+-- 01 and 21, and a refused opening keeps the old record
 unfoldable pub freeFrame : List ℕ → Held → Done
 freeFrame line h =
     let o : FreeOpened = freeOpened (openingOf line) in
@@ -39,9 +49,9 @@ freeFrame line h =
 
 -- the priority opening with the same figures
 unfoldable pub priorityOpened : Opening → PriorityOpened
-priorityOpened f = openPriority ported (f .window) (f .rates) (f .«rate_count») (f .delays) (f .«delay_count»)
+priorityOpened f = openPriority (choosing (f .rule)) (f .window) (f .rates) (f .«rate_count») (f .delays) (f .«delay_count»)
 
--- 02, likewise
+-- 02 and 22, likewise
 unfoldable pub priorityFrame : List ℕ → Held → Done
 priorityFrame line h =
     let o : PriorityOpened = priorityOpened (openingOf line) in
@@ -49,9 +59,9 @@ priorityFrame line h =
 
 -- the polynomial opening with the frame's figures
 unfoldable pub polynomialOpened : PolynomialOpening → PolynomialOpened
-polynomialOpened f = openPolynomial portedPolynomial (f .window) (f .polynome) (f .delays) (f .«delay_count»)
+polynomialOpened f = openPolynomial (choosingPolynomial (f .rule)) (f .window) (f .polynome) (f .delays) (f .«delay_count»)
 
--- 03, likewise
+-- 03 and 23, likewise
 unfoldable pub polynomialFrame : List ℕ → Held → Done
 polynomialFrame line h =
     let o : PolynomialOpened = polynomialOpened (polynomialOf line) in

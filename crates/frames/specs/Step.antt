@@ -35,7 +35,10 @@ changeOf k line h =
     (on k 17 (bookFrame line h)
     (on k 19 (enqueueFrame line h)
     (on k 20 (dequeueFrame line h)
-    (noFrame h)))))))
+    (on k 33 (freeFrame line h)
+    (on k 34 (priorityFrame line h)
+    (on k 35 (polynomialFrame line h)
+    (noFrame h))))))))))
 
 -- the frames that only show what is held; every other kind, ff
 unfoldable pub showOf : ℕ → List ℕ → Held → List ℕ
@@ -47,7 +50,7 @@ showOf k line h =
 
 -- the kinds of the first table
 unfoldable pub changes : ℕ → Bool
-changes k = eqb k 1 || (eqb k 2 || (eqb k 3 || (eqb k 4 || (eqb k 17 || (eqb k 19 || eqb k 20)))))
+changes k = eqb k 1 || (eqb k 2 || (eqb k 3 || (eqb k 4 || (eqb k 17 || (eqb k 19 || (eqb k 20 || (eqb k 33 || (eqb k 34 || eqb k 35))))))))
 
 -- an answer of a number alone, and what is held after it
 abbrev pub told : Done → List ℕ × Held

@@ -1,4 +1,4 @@
-// What an opening's line opens, on a line of the right length.
+// What an opening's line opens, on a line of the right length: the source's choices, but for the rule.
 use legacy::Queue;
 use poly_seg::PolySeg;
 use pseg::PrioritySeg;
@@ -23,7 +23,13 @@ pub fn free(line: &[u8]) -> seg::Opened
     let rate_count = f.rate_count;
     let delays = f.delays;
     let delay_count = f.delay_count;
-    let choices = contact::Choices::ported();
+    let rule = f.rule;
+    let ported = contact::Choices::ported();
+    let edition = ported.edition;
+    let choices = contact::Choices {
+        edition: edition,
+        rule: rule,
+    };
     FreeVolume::open(choices, window, rates, rate_count, delays, delay_count)
 }
 
@@ -36,7 +42,13 @@ pub fn priority(line: &[u8]) -> pseg::Opened
     let rate_count = f.rate_count;
     let delays = f.delays;
     let delay_count = f.delay_count;
-    let choices = contact::Choices::ported();
+    let rule = f.rule;
+    let ported = contact::Choices::ported();
+    let edition = ported.edition;
+    let choices = contact::Choices {
+        edition: edition,
+        rule: rule,
+    };
     PrioritySeg::open(choices, window, rates, rate_count, delays, delay_count)
 }
 
@@ -48,7 +60,13 @@ pub fn polynomial(line: &[u8]) -> poly_seg::Opened
     let polynome = f.polynome;
     let delays = f.delays;
     let delay_count = f.delay_count;
-    let choices = poly_seg::Choices::ported();
+    let rule = f.rule;
+    let ported = poly_seg::Choices::ported();
+    let mode = ported.mode;
+    let choices = poly_seg::Choices {
+        mode: mode,
+        rule: rule,
+    };
     PolySeg::open(choices, window, polynome, delays, delay_count)
 }
 

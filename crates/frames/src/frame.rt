@@ -3,7 +3,7 @@ ghost use mathlib.Core.Path.{_≡_};
 ghost use mathlib.Core.Bool.{Bool};
 ghost use Rattle.frames.specs.Granted.{frameOf, whenOf};
 
-// The four openings, the calls, and 13 and 14 together; every other line is none.
+// The four openings, with a stated rule or without, the calls, and 13 and 14 together; every other line is none.
 pub enum Frame {
     Wrong,
     Free,
@@ -42,6 +42,9 @@ pub fn of(line: &[u8]) -> Frame
         19 => when(layout::has(line, 10), Frame::Queueing),
         20 => when(layout::has(line, 10), Frame::Queueing),
         21 => when(layout::has(line, 1), Frame::Room),
+        33 => when(layout::opening::fits(line), Frame::Free),
+        34 => when(layout::opening::fits(line), Frame::Priority),
+        35 => when(layout::polynomial::fits(line), Frame::Polynomial),
         _ => Frame::Wrong,
     }
 }

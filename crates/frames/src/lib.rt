@@ -42,7 +42,7 @@ pub fn can_change(line: &[u8]) -> bool
 {
     let kind = hex::byte_at(line, 0);
     match kind {
-        1 | 2 | 3 | 4 | 17 | 19 | 20 => true,
+        1 | 2 | 3 | 4 | 17 | 19 | 20 | 33 | 34 | 35 => true,
         _ => false,
     }
 }
@@ -60,6 +60,9 @@ pub fn change(line: &[u8], held: Held) -> Done
         17 => calls::book(line, held),
         19 => calls::enqueue(line, held),
         20 => calls::dequeue(line, held),
+        33 => opening::free(line, held),
+        34 => opening::priority(line, held),
+        35 => opening::polynomial(line, held),
         _ => held.refused(NO_FRAME),
     }
 }

@@ -1,11 +1,11 @@
-// Frames 01 to 04: a line of the wrong length is ff, a refused opening keeps the old record.
+// Frames 01 to 04 and 21 to 23: a line of the wrong length is ff, a refused opening keeps the old record.
 use crate::NO_FRAME;
 use held::Done;
 use held::Held;
 ghost use mathlib.Core.Path.{_≡_};
 ghost use Rattle.frames.specs.Opening.{freeFrame, priorityFrame, polynomialFrame, queueFrame};
 
-// Frame 01.
+// Frames 01 and 21.
 pub fn free(line: &[u8], held: Held) -> Done
     ensures { λ r. ⌜ r ≡ freeFrame (now (line .entry)) held ⌝ }
 {
@@ -18,7 +18,7 @@ pub fn free(line: &[u8], held: Held) -> Done
     held::free::kept(held, number, manager)
 }
 
-// Frame 02.
+// Frames 02 and 22.
 pub fn priority(line: &[u8], held: Held) -> Done
     ensures { λ r. ⌜ r ≡ priorityFrame (now (line .entry)) held ⌝ }
 {
@@ -31,7 +31,7 @@ pub fn priority(line: &[u8], held: Held) -> Done
     held::priority::kept(held, number, manager)
 }
 
-// Frame 03.
+// Frames 03 and 23.
 pub fn polynomial(line: &[u8], held: Held) -> Done
     ensures { λ r. ⌜ r ≡ polynomialFrame (now (line .entry)) held ⌝ }
 {

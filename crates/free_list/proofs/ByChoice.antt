@@ -2,7 +2,6 @@
 use Prim.Native.Nat.{ℕ}
 use mathlib.Core.Bool.{Bool, true, false}
 use mathlib.Core.Path.{_≡_, refl, sym, ap, _∙_}
-use mathlib.Core.List.{List}
 use native.Mathlib.Omega.{arith}
 use Rattle.units.specs.declared.Interval.{Interval}
 use Rattle.units.specs.declared.TxData.{TxData}
@@ -12,8 +11,7 @@ use Rattle.units.specs.Answer.{refused, offers}
 use Rattle.units.specs.Granted.{refusalOf}
 use Rattle.units.proofs.Logic.{no-both, unless-go, unless-stop}
 use Rattle.units.proofs.Booking.{refusal-none, booking-refused, booking-fits}
-use Rattle.segmentation.specs.declared.DelaySegment.{DelaySegment}
-use Rattle.segmentation.specs.Delay.{answerWith}
+use Rattle.segmentation.specs.declared.Delays.{Delays}
 use Rattle.contact.proofs.Offers.{refused-offers, offers-send, answer-not-two}
 use Rattle.free_list.specs.declared.Found.{Found}
 use Rattle.free_list.specs.declared.Found.the-variants.{At, None}
@@ -21,27 +19,27 @@ use Rattle.free_list.specs.declared.Chosen.{Chosen}
 use Rattle.free_list.specs.Granted.{noneChosen, chosenAt, chosenIn}
 
 -- what was found, as an answer
-module _ (l : List DelaySegment) where
-  not-two : (f : Found) → chosenAt l f .offer .number ≡ 2 → ⊥
-  not-two (At i send) h = answer-not-two l send h
+module _ (find : ℕ → ℕ → Delays) where
+  not-two : (f : Found) → chosenAt find f .offer .number ≡ 2 → ⊥
+  not-two (At i send) h = answer-not-two find send h
   not-two None h = omega arith
 
-  found-sends : (f : Found) (d : TxData) → offers (chosenAt l f .offer) d ≡ true → f ≡ At (chosenAt l f .place) (d .send)
-  found-sends (At i send) d o = ap (λ (x : Interval). At i x) (offers-send l send d o)
+  found-sends : (f : Found) (d : TxData) → offers (chosenAt find f .offer) d ≡ true → f ≡ At (chosenAt find f .place) (d .send)
+  found-sends (At i send) d o = ap (λ (x : Interval). At i x) (offers-send find send d o)
   found-sends None d o = absurd (no-both o (refused-offers 7 d (λ z. omega arith)))
 
-module _ (fits : Bool) (l : List DelaySegment) (f : Found) where
-  pub chosen-stop : fits ≡ false → chosenIn fits l f ≡ noneChosen 2
+module _ (fits : Bool) (find : ℕ → ℕ → Delays) (f : Found) where
+  pub chosen-stop : fits ≡ false → chosenIn fits find f ≡ noneChosen 2
   chosen-stop e = unless-stop _ _ _ e
 
-  chosen-go : fits ≡ true → chosenIn fits l f ≡ chosenAt l f
+  chosen-go : fits ≡ true → chosenIn fits find f ≡ chosenAt find f
   chosen-go e = unless-go _ _ _ e
 
-  pub chosen-found : {g : Found} → fits ≡ true → f ≡ g → chosenIn fits l f ≡ chosenAt l g
-  chosen-found e h = chosen-go e ∙ ap (chosenAt l) h
+  pub chosen-found : {g : Found} → fits ≡ true → f ≡ g → chosenIn fits find f ≡ chosenAt find g
+  chosen-found e h = chosen-go e ∙ ap (chosenAt find) h
 
   abbrev chosen : Chosen
-  chosen = chosenIn fits l f
+  chosen = chosenIn fits find f
 
   abbrev offer : Offer
   offer = chosen .offer
@@ -51,25 +49,25 @@ module _ (fits : Bool) (l : List DelaySegment) (f : Found) where
   two e = ap (λ (x : Chosen). x .offer .number) (chosen-stop e)
 
   only-two : fits ≡ true → offer .number ≡ 2 → ⊥
-  only-two e h = not-two l f (sym (ap (λ (x : Chosen). x .offer .number) (chosen-go e)) ∙ h)
+  only-two e h = not-two find f (sym (ap (λ (x : Chosen). x .offer .number) (chosen-go e)) ∙ h)
 
   module _ {B : Type 0} (d : TxData) (refuse : ℕ → B) (done : Found → B) where
     -- 2, 9, then the booking of what was found
     abbrev pub table : B
     table = unless fits (refuse 2) (unless (offers offer d) (refuse 9) (done f))
 
-    pub table-refused : (refusalOf (chosenIn fits l f .offer) d ≡ 0 → ⊥) → table ≡ refuse (refusalOf (chosenIn fits l f .offer) d)
+    pub table-refused : (refusalOf (chosenIn fits find f .offer) d ≡ 0 → ⊥) → table ≡ refuse (refusalOf (chosenIn fits find f .offer) d)
     table-refused some = booking-refused offer d fits refuse (done f) two only-two some
 
-    module _ (none : refusalOf (chosenIn fits l f .offer) d ≡ 0) where
+    module _ (none : refusalOf (chosenIn fits find f .offer) d ≡ 0) where
       pub table-fits : fits ≡ true
       table-fits = booking-fits offer d fits refuse (done f) two none
 
       -- the dates send what the search found
-      pub table-found : f ≡ At (chosenIn fits l f .place) (d .send)
+      pub table-found : f ≡ At (chosenIn fits find f .place) (d .send)
       table-found =
           let e = chosen-go table-fits in
-          rw e (found-sends l f d (sym (ap (λ (x : Chosen). offers (x .offer) d) e) ∙ refusal-none offer d none))
+          rw e (found-sends find f d (sym (ap (λ (x : Chosen). offers (x .offer) d) e) ∙ refusal-none offer d none))
 
-      pub table-done : table ≡ done (At (chosenIn fits l f .place) (d .send))
+      pub table-done : table ≡ done (At (chosenIn fits find f .place) (d .send))
       table-done = unless-go _ _ _ table-fits ∙ unless-go _ _ _ (refusal-none offer d none) ∙ ap done table-found

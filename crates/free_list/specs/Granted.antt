@@ -8,7 +8,7 @@ use lib.ListN.{take, drop, getD}
 use Rattle.units.specs.Limits.{volumeMax, segmentsMax, listedMax}
 use Rattle.units.specs.declared.Date.{Date}
 use Rattle.units.specs.Logic.{pick, unless, allOf}
-use Rattle.segmentation.specs.declared.DelaySegment.{DelaySegment}
+use Rattle.segmentation.specs.declared.Delays.{Delays}
 use Rattle.segmentation.specs.Delay.{answerWith}
 use Rattle.segmentation.specs.declared.VolumeSegment.{VolumeSegment}
 use Rattle.segmentation.specs.declared.End.{End}
@@ -64,14 +64,14 @@ leftIn l n off on = cutAnswer 0 (record { segments = l; count = n }) off on
 abbrev pub noneChosen : ℕ → Chosen
 noneChosen k = record { offer = refused k; place = 0 }
 
--- what was found, as a dry run's answer with these delays and its place
-abbrev pub chosenAt : List DelaySegment → Found → Chosen
-chosenAt l (At i send) = record { offer = answerWith l send; place = i }
-chosenAt l None = noneChosen 7
+-- what was found, as a dry run's answer by a lookup of the delays, and its place
+abbrev pub chosenAt : (ℕ → ℕ → Delays) → Found → Chosen
+chosenAt find (At i send) = record { offer = answerWith find send; place = i }
+chosenAt find None = noneChosen 7
 
 -- what a dry run finds, by its bundle's test
-abbrev pub chosenIn : Bool → List DelaySegment → Found → Chosen
-chosenIn fits l f = unless fits (noneChosen 2) (chosenAt l f)
+abbrev pub chosenIn : Bool → (ℕ → ℕ → Delays) → Found → Chosen
+chosenIn fits find f = unless fits (noneChosen 2) (chosenAt find f)
 
 -- a segment's turn in the search (`end_in`)
 abbrev pub endIn : Rule → VolumeSegment → ℕ → ℕ → End

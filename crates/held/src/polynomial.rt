@@ -8,6 +8,7 @@ use poly::Mode;
 use poly::Polynome;
 use poly_seg::Choices;
 use poly_seg::PolySeg;
+use segmentation::Rule;
 use units::Date;
 ghost use mathlib.Core.Path.{_≡_};
 ghost use Rattle.held.specs.State.{noPolynomial, keptPolynomial};
@@ -22,7 +23,10 @@ pub fn empty() -> PolySeg
     let delays = contact.delays;
     let free = FreeList::nothing();
     PolySeg {
-        choices: Choices { mode: Mode(0) },
+        choices: Choices {
+            mode: Mode(0),
+            rule: Rule(0),
+        },
         window: window,
         polynome: Polynome {
             coefficients: [0i64; Polynome::COEFFICIENTS],

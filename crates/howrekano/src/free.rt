@@ -126,7 +126,7 @@ fn chosen(
     ) else {
         return Chosen::refused(units::refusal::NO_OFFER);
     };
-    let offer = words::answer_at(delays, delay_count, send);
+    let offer = words::answer_at(named.rule, delays, delay_count, send);
     Chosen {
         offer: offer,
         place: place,
@@ -167,7 +167,7 @@ pub extern "C" fn hk_free_dry_run_kept(
     ) else {
         return Offer::refused(units::refusal::NO_OFFER);
     };
-    words::answer_at(delays, delay_count, send)
+    words::answer_at(named.rule, delays, delay_count, send)
 }
 
 #[no_mangle]

@@ -127,7 +127,7 @@ fn chosen(
     else {
         return Chosen::refused(units::refusal::NO_OFFER);
     };
-    let offer = words::answer_at(delays, delay_count, send);
+    let offer = words::answer_at(named.rule, delays, delay_count, send);
     Chosen {
         offer: offer,
         place: place,
@@ -169,7 +169,7 @@ pub extern "C" fn hk_polynomial_dry_run_kept(
     ) else {
         return Offer::refused(units::refusal::NO_OFFER);
     };
-    words::answer_at(delays, delay_count, send)
+    words::answer_at(named.rule, delays, delay_count, send)
 }
 
 // The list is cut where it stands. There are no rates: none of the numbers lent in their place is read, and the list has no room.

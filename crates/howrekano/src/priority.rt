@@ -112,7 +112,7 @@ pub extern "C" fn hk_priority_dry_run_kept(
     ) else {
         return Offer::refused(units::refusal::NO_OFFER);
     };
-    words::answer_at(delays, delay_count, send)
+    words::answer_at(named.rule, delays, delay_count, send)
 }
 
 // The booking is set where the list stands.

@@ -15,6 +15,10 @@ use Rattle.layout.proofs.dates_at.Kinds as dates-at-kinds
 use Rattle.layout.proofs.dates_at.Reads as dates-at-reads
 use Rattle.layout.proofs.bundle_at.Kinds as bundle-at-kinds
 use Rattle.layout.proofs.bundle_at.Reads as bundle-at-reads
+use Rattle.layout.proofs.rule.length.Kinds as rule-length-kinds
+use Rattle.layout.proofs.rule.length.Reads as rule-length-reads
+use Rattle.layout.proofs.rule.at.Kinds as rule-at-kinds
+use Rattle.layout.proofs.rule.at.Reads as rule-at-reads
 use Rattle.layout.proofs.opening.rates_at.Kinds as rates-at-kinds
 use Rattle.layout.proofs.opening.rates_at.Reads as rates-at-reads
 use Rattle.layout.proofs.opening.delays_at.Kinds as delays-at-kinds
@@ -50,6 +54,12 @@ module _ (κs : Lfts 1) where
 
   pub bundle-at-unique : (a : Dens κs bundle-at-kinds.ps) → Determined (bundle-at-reads.Post κs a)
   bundle-at-unique a r q x y f g = f ∙ sym g
+
+  pub rule-length-unique : (a : Dens κs rule-length-kinds.ps) → Determined (rule-length-reads.Post κs a)
+  rule-length-unique a r q x y f g = f .0 ∙ sym (g .0)
+
+  pub rule-at-unique : (a : Dens κs rule-at-kinds.ps) → Determined (rule-at-reads.Post κs a)
+  rule-at-unique a r q x y f g = f ∙ sym g
 
   pub rates-at-unique : (a : Dens κs rates-at-kinds.ps) → Determined (rates-at-reads.Post κs a)
   rates-at-unique a r q x y f g = f ∙ sym g

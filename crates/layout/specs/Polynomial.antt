@@ -1,4 +1,4 @@
--- 01, "The trace program", 03: start, end, offset, 4 coefficients, delay count, delays.
+-- 01, "The trace program", 03: start, end, offset, 4 coefficients, delay count, delays; and 02's 23.
 use Prim.Native.Nat.{ℕ, _+_, _*_}
 use mathlib.Core.List.{List, [], _∷_}
 use Rattle.poly.specs.declared.Polynome.{Polynome}
@@ -7,10 +7,14 @@ use Rattle.hex.specs.Numbers.{numberAt, signedOf}
 use Rattle.layout.specs.declared.polynomial.PolynomialOpening.{PolynomialOpening}
 use Rattle.layout.specs.Fields.{dateAt, intervalAt}
 use Rattle.layout.specs.Segments.{delaysAt}
+use Rattle.layout.specs.Rule.{lengthOf, ruleAt}
 
--- in bytes: what stands before the delays, and 24 for each
+-- in bytes: where the delays end, after what stands before them and 24 for each; and the length
+abbrev pub polynomialEnd : List ℕ → ℕ
+polynomialEnd line = 58 + 24 * byteAt line 57
+
 abbrev pub polynomialLength : List ℕ → ℕ
-polynomialLength line = 58 + 24 * byteAt line 57
+polynomialLength line = lengthOf line (polynomialEnd line)
 
 -- the offset and the coefficients, which may be negative
 unfoldable pub polynomeOf : List ℕ → Polynome
@@ -24,6 +28,7 @@ polynomeOf line =
 unfoldable pub polynomialOf : List ℕ → PolynomialOpening
 polynomialOf line =
     record {
+      rule = ruleAt line (polynomialEnd line);
       window = intervalAt line 1;
       polynome = polynomeOf line;
       delays = delaysAt line 58 (byteAt line 57);

@@ -2,6 +2,7 @@
 pub mod opening;
 pub mod polynomial;
 pub mod queue;
+pub mod rule;
 
 use units::Bundle;
 use units::Date;

@@ -1,9 +1,11 @@
-// Frames 01 and 02: start, end, rate count, delay count, the rate segments, the delay segments.
+// Frames 01 and 02: start, end, rate count, delay count, the rate segments, the delay segments; 21 and 22: and the rule.
 use crate::count_at;
 use crate::date_at;
 use crate::interval_at;
+use crate::rule;
 use segmentation::DelaySegment;
 use segmentation::RateSegment;
+use segmentation::Rule;
 use units::Date;
 use units::Delay;
 use units::Interval;
@@ -13,11 +15,12 @@ ghost use Prim.Native.Nat.{_<_, _^_, min};
 ghost use Rattle.units.specs.Limits.{segmentsMax};
 ghost use Rattle.layout.specs.Fields.{hasBytes};
 ghost use Rattle.layout.specs.Segments.{rateAt, delayAt, ratesAt, delaysAt};
-ghost use Rattle.layout.specs.Opening.{openingLength, openingOf};
+ghost use Rattle.layout.specs.Opening.{openingEnd, openingLength, openingOf};
 
 // What an opening with segments is given.
 #[repr(C)]
 pub struct Opening {
+    pub rule: Rule,
     pub window: Interval,
     pub rates: [RateSegment; RateSegment::COUNT_MAX],
     pub rate_count: usize,
@@ -104,13 +107,20 @@ pub fn delays_at(line: &[u8], at: usize, n: usize) -> [DelaySegment; DelaySegmen
     delays
 }
 
-// Is the line as long as its two counts ask?
-pub fn fits(line: &[u8]) -> bool
-    ensures { λ r. ⌜ r ≡ hasBytes (now (line .entry)) (openingLength (now (line .entry))) ⌝ }
+// Where the segments end, as the counts ask.
+fn end(line: &[u8]) -> usize
+    ensures { λ r. ⌜ r ≡ openingEnd (now (line .entry)) ⌝ ∗ ⌜ r < 2 ^ 61 ⌝ }
 {
     let m = count_at(line, 17);
     let n = count_at(line, 18);
-    crate::has(line, 19 + 24 * (m + n))
+    19 + 24 * (m + n)
+}
+
+// Is the line as long as its counts and its kind ask?
+pub fn fits(line: &[u8]) -> bool
+    ensures { λ r. ⌜ r ≡ hasBytes (now (line .entry)) (openingLength (now (line .entry))) ⌝ }
+{
+    crate::has(line, rule::length(line, end(line)))
 }
 
 pub fn read(line: &[u8]) -> Opening
@@ -121,7 +131,9 @@ pub fn read(line: &[u8]) -> Opening
     let n = count_at(line, 18);
     let rates = rates_at(line, 19, m);
     let delays = delays_at(line, 19 + 24 * m, n);
+    let stated = rule::at(line, end(line));
     Opening {
+        rule: stated,
         window: window,
         rates: rates,
         rate_count: m,

@@ -1,30 +1,40 @@
-// Frame 03: start, end, offset, four coefficients, delay count, the delay segments.
+// Frame 03: start, end, offset, four coefficients, delay count, the delay segments; 23: and the rule.
 use crate::count_at;
 use crate::date_at;
 use crate::interval_at;
 use crate::opening::delays_at;
+use crate::rule;
 use poly::Polynome;
 use segmentation::DelaySegment;
+use segmentation::Rule;
 use units::Interval;
 ghost use mathlib.Core.Path.{_≡_};
+ghost use Prim.Native.Nat.{_<_, _^_};
 ghost use Rattle.layout.specs.Fields.{hasBytes};
-ghost use Rattle.layout.specs.Polynomial.{polynomeOf, polynomialLength, polynomialOf};
+ghost use Rattle.layout.specs.Polynomial.{polynomeOf, polynomialEnd, polynomialLength, polynomialOf};
 
 // What the polynomial manager's opening is given.
 #[repr(C)]
 pub struct PolynomialOpening {
+    pub rule: Rule,
     pub window: Interval,
     pub polynome: Polynome,
     pub delays: [DelaySegment; DelaySegment::COUNT_MAX],
     pub delay_count: usize,
 }
 
-// Is the line as long as its count asks?
+// Where the delay segments end, as the count asks.
+fn end(line: &[u8]) -> usize
+    ensures { λ r. ⌜ r ≡ polynomialEnd (now (line .entry)) ⌝ ∗ ⌜ r < 2 ^ 61 ⌝ }
+{
+    58 + 24 * count_at(line, 57)
+}
+
+// Is the line as long as its count and its kind ask?
 pub fn fits(line: &[u8]) -> bool
     ensures { λ r. ⌜ r ≡ hasBytes (now (line .entry)) (polynomialLength (now (line .entry))) ⌝ }
 {
-    let n = count_at(line, 57);
-    crate::has(line, 58 + 24 * n)
+    crate::has(line, rule::length(line, end(line)))
 }
 
 fn polynome(line: &[u8]) -> Polynome
@@ -49,7 +59,9 @@ pub fn read(line: &[u8]) -> PolynomialOpening
     let p = polynome(line);
     let n = count_at(line, 57);
     let delays = delays_at(line, 58, n);
+    let stated = rule::at(line, end(line));
     PolynomialOpening {
+        rule: stated,
         window: window,
         polynome: p,
         delays: delays,

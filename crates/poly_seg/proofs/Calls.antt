@@ -16,11 +16,11 @@ use Rattle.units.proofs.Loads.{asked-load, load}
 use Rattle.free_list.specs.declared.Found.{Found}
 use Rattle.free_list.specs.declared.Found.the-variants.{At, None}
 use Rattle.free_list.specs.Cut.{listIn}
-use Rattle.free_list.specs.Granted.{Inside, chosenIn}
-use Rattle.free_list.proofs.ByChoice.{table, table-refused, table-fits, table-found, table-done}
+use Rattle.free_list.specs.Granted.{Inside, noneChosen, chosenAt, chosenIn}
+use Rattle.free_list.proofs.ByChoice.{chosen-stop, chosen-found as by-found, table, table-refused, table-fits, table-found, table-done}
 use Rattle.poly_seg.specs.declared.PolySeg.{PolySeg}
 use Rattle.poly_seg.specs.declared.Booked.{Booked}
-use Rattle.poly_seg.specs.Record.{delayList, recordOk}
+use Rattle.poly_seg.specs.Record.{delaysAt, recordOk}
 use Rattle.poly_seg.specs.DryRun.{dryRunOf, foundOf, answerTo}
 use Rattle.poly_seg.specs.Book.{bookOf, bookedOf, bookedAt, refusedBooking}
 use Rattle.poly_seg.specs.List.{listOf}
@@ -37,7 +37,7 @@ module _ (r : PolySeg) where
   list-done e = unless-go _ _ _ e
 
   -- a dry run answers what is chosen
-  same-offer : (c : Bool) (f : Found) → chosenIn c (delayList r) f .offer ≡ unless c (refused 2) (answerTo r f)
+  same-offer : (c : Bool) (f : Found) → chosenIn c (delaysAt r) f .offer ≡ unless c (refused 2) (answerTo r f)
   same-offer true (At i send) = refl
   same-offer true None = refl
   same-offer false f = refl
@@ -57,13 +57,21 @@ module _ (r : PolySeg) (at : Date) (b : Bundle) where
   abbrev refuse : ℕ → Booked
   refuse n = refusedBooking n r
 
+  pub chosen-bundle : bundleOk at b ≡ false → chosenOf r at b ≡ noneChosen 2
+  unfolding chosenOf
+  chosen-bundle e = chosen-stop (bundleOk at b) (delaysAt r) found e
+
+  pub chosen-as : {f : Found} → bundleOk at b ≡ true → foundOf r (at .0) (b .size .0) ≡ f → chosenOf r at b ≡ chosenAt (delaysAt r) f
+  unfolding chosenOf
+  chosen-as q e = by-found (bundleOk at b) (delaysAt r) found q e
+
   module _ (ok : recordOk r ≡ true) where
     pub chosen-offer : chosenOf r at b .offer ≡ dryRunOf r at b
     unfolding chosenOf dryRunOf
     chosen-offer = same-offer r (bundleOk at b) found ∙ sym (unless-go _ _ _ ok)
 
     module _ (d : TxData) where
-      book-is : bookOf r at b d ≡ table (bundleOk at b) (delayList r) found d refuse (bookedAt r)
+      book-is : bookOf r at b d ≡ table (bundleOk at b) (delaysAt r) found d refuse (bookedAt r)
       unfolding bookOf chosenOf
       book-is =
           unless-go _ _ _ ok
@@ -71,21 +79,21 @@ module _ (r : PolySeg) (at : Date) (b : Bundle) where
 
       pub chosen-refused : (refusalOf (chosenOf r at b .offer) d ≡ 0 → ⊥) → bookOf r at b d ≡ refusedBooking (refusalOf (chosenOf r at b .offer) d) r
       unfolding chosenOf
-      chosen-refused some = book-is ∙ table-refused (bundleOk at b) (delayList r) found d refuse (bookedAt r) some
+      chosen-refused some = book-is ∙ table-refused (bundleOk at b) (delaysAt r) found d refuse (bookedAt r) some
 
       module _ (none : refusalOf (chosenOf r at b .offer) d ≡ 0) where
         pub chosen-some : 1 ≤ b .size .0
         unfolding chosenOf
-        chosen-some = load b (asked-load at b (table-fits (bundleOk at b) (delayList r) found d refuse (bookedAt r) none)) .some
+        chosen-some = load b (asked-load at b (table-fits (bundleOk at b) (delaysAt r) found d refuse (bookedAt r) none)) .some
 
         -- the dates send what the search found
         pub chosen-found : foundOf r (at .0) (b .size .0) ≡ At (chosenOf r at b .place) (d .send)
         unfolding chosenOf
-        chosen-found = table-found (bundleOk at b) (delayList r) found d refuse (bookedAt r) none
+        chosen-found = table-found (bundleOk at b) (delaysAt r) found d refuse (bookedAt r) none
 
         pub chosen-done : (bookOf r at b d ≡ bookedOf r (chosenOf r at b .place) (d .send)) × Inside (r .free) (chosenOf r at b .place) 0
         unfolding chosenOf
         chosen-done = (
-          book-is ∙ table-done (bundleOk at b) (delayList r) found d refuse (bookedAt r) none,
+          book-is ∙ table-done (bundleOk at b) (delaysAt r) found d refuse (bookedAt r) none,
           cut-asks r (facts r ok) (at .0) (b .size .0) chosen-some _ (d .send) chosen-found,
         )

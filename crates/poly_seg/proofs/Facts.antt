@@ -6,16 +6,19 @@ use mathlib.Core.List.{List, [], _∷_}
 use native.Mathlib.Omega.{arith}
 use lib.ListN.{length, drop, getD, length-take}
 use lib.Seq.{getD-take}
-use borrow.Author.Tests.{le-leb, eqb-true}
+use borrow.Author.Tests.{le-leb, eqb-true, eq-eqb, ne-eqb}
 use Rattle.units.specs.declared.Interval.{Interval}
 use Rattle.units.specs.Logic.{both, allOf}
-use Rattle.units.specs.Limits.{dateMax, segmentsMax, listedMax, windowOk}
+use Rattle.units.specs.Limits.{dateMax, segmentsMax, listedMax}
 use Rattle.units.proofs.Logic.{both-go, both-stop, both-fst, both-snd, both-yes}
 use Rattle.units.proofs.Counted.{counted, counted-some, counted-most, counted-holds}
 use Rattle.units.proofs.Windows.{Window, window}
 use Rattle.segmentation.specs.declared.VolumeSegment.{VolumeSegment}
 use Rattle.segmentation.specs.Granted.{AllShort}
-use Rattle.contact.specs.Segments.{zeroVolume, noVolume, noDelay}
+use Rattle.contact.specs.Segments.{delaySpan, spans, zeroVolume, noVolume, noDelay}
+use Rattle.contact.specs.Boundary.{Received}
+use Rattle.contact.proofs.Boundary.{received}
+use Rattle.contact.proofs.Lookup.{Answers, window-finds, finds-answer}
 use Rattle.free_list.specs.declared.Found.the-variants.{At}
 use Rattle.free_list.specs.Granted.{Inside}
 use Rattle.free_list.specs.Listed.{listOk}
@@ -24,54 +27,41 @@ use Rattle.free_list.proofs.ListedLaws.{Listed, listed-true}
 use Rattle.free_list.proofs.Offered.{AtPlace, place-get, listed-at, Here, Offered}
 use Rattle.free_list.proofs.CutLaws.{offered-inside}
 use Rattle.free_list.proofs.CutList.{Kept, offered-inside-list}
-use Rattle.poly.specs.Poly.{polyOk}
 use Rattle.poly.specs.Granted.{termsOf, Ranged}
 use Rattle.poly.proofs.Range.{ranged}
 use Rattle.poly.proofs.EndLaws.{find-end-inside}
 use Rattle.poly.proofs.Modes.{wanted-some}
 use Rattle.poly_seg.specs.declared.PolySeg.{PolySeg}
-use Rattle.poly_seg.specs.Choices.{choicesOk}
-use Rattle.poly_seg.specs.Open.{delaysOk}
-use Rattle.poly_seg.specs.Record.{delayList, recordOk}
+use Rattle.poly_seg.specs.Open.{openOf}
+use Rattle.poly_seg.specs.Record.{ruleOf, delayList, delaysAt, answerIn, recordOk}
 use Rattle.poly_seg.specs.DryRun.{capacityOf, sizeOf, foundOf}
-use Rattle.poly_seg.proofs.Lookup.{delays-most, delays-short}
+use Rattle.poly_seg.proofs.Lookup.{delays-most, delays-short, delays-cover}
 use Rattle.poly_seg.proofs.NoRates.{bare-here}
 use Rattle.poly_seg.proofs.Picked.{Picked, offer-picked}
-use Rattle.poly_seg.proofs.Opening.{Passed, open-choices, open-window, open-delays, open-polynome, open-passed, open-yes, open-not}
+use Rattle.poly_seg.proofs.Opening.{Passed, open-passed, open-zero}
 
 -- The record's test, test by test.
 module _ (r : PolySeg) where
   abbrev pub Opens : Type 0
   Opens = Passed (r .choices) (r .window) (r .polynome) (r .delays) (r .«delay_count»)
 
-  pub record-choices : choicesOk (r .choices) ≡ false → recordOk r ≡ false
+  abbrev pub numberOf : ℕ
+  numberOf = openOf (r .choices) (r .window) (r .polynome) (r .delays) (r .«delay_count») .number
+
+  pub record-refused : (numberOf ≡ 0 → ⊥) → recordOk r ≡ false
   unfolding recordOk
-  record-choices e = both-stop _ _ (open-not _ _ _ _ _ 2 (open-choices _ _ _ _ _ e) (λ z. omega arith))
+  record-refused some = both-stop _ _ (ne-eqb _ _ some)
 
-  module _ (h0 : choicesOk (r .choices) ≡ true) where
-    pub record-window : windowOk (r .window) ≡ false → recordOk r ≡ false
-    unfolding recordOk
-    record-window e = both-stop _ _ (open-not _ _ _ _ _ 3 (open-window _ _ _ _ _ h0 e) (λ z. omega arith))
-
-    module _ (h1 : windowOk (r .window) ≡ true) where
-      pub record-delays : delaysOk (r .«delay_count») (r .delays) ≡ false → recordOk r ≡ false
-      unfolding recordOk
-      record-delays e = both-stop _ _ (open-not _ _ _ _ _ 5 (open-delays _ _ _ _ _ h0 h1 e) (λ z. omega arith))
-
-      pub record-polynome : delaysOk (r .«delay_count») (r .delays) ≡ true → polyOk (r .choices .mode .0) (r .polynome) (r .window) ≡ false → recordOk r ≡ false
-      unfolding recordOk
-      record-polynome h2 e = both-stop _ _ (open-not _ _ _ _ _ 11 (open-polynome _ _ _ _ _ h0 h1 h2 e) (λ z. omega arith))
-
-  module _ (h : Opens) where
+  module _ (h : numberOf ≡ 0) where
     pub record-delayed : allOf noDelay (drop (r .«delay_count») (r .delays)) ≡ false → recordOk r ≡ false
     unfolding recordOk
-    record-delayed e = both-go _ _ (open-yes _ _ _ _ _ h) ∙ both-stop _ _ e
+    record-delayed e = both-go _ _ (eq-eqb _ _ h) ∙ both-stop _ _ e
 
     pub record-listed : allOf noDelay (drop (r .«delay_count») (r .delays)) ≡ true
         → recordOk r ≡ counted listedMax (r .free .count)
         (both (listOk [] (r .window .start .0) (r .window .end .0) (listed (r .free))) (allOf noVolume (drop (r .free .count) (r .free .segments))))
     unfolding recordOk
-    record-listed e = both-go _ _ (open-yes _ _ _ _ _ h) ∙ both-go _ _ e
+    record-listed e = both-go _ _ (eq-eqb _ _ h) ∙ both-go _ _ e
 
 pub record Facts (r : PolySeg) : Type 0 where
   pub test : Opens r
@@ -79,6 +69,7 @@ pub record Facts (r : PolySeg) : Type 0 where
   pub range : Ranged (termsOf (r .choices .mode .0) (r .polynome)) (r .window)
   pub places : r .«delay_count» ≤ segmentsMax
   pub short : AllShort (delayList r)
+  pub covered : ruleOf r ≡ 2 → spans delaySpan (r .window .start .0) (r .window .end .0) (delayList r) ≡ true
   pub undelayed : allOf noDelay (drop (r .«delay_count») (r .delays)) ≡ true
   pub some : 1 ≤ r .free .count
   pub few : r .free .count ≤ listedMax
@@ -97,8 +88,9 @@ facts r e =
       test = test;
       window = window _ (test .window);
       range = ranged _ _ _ (test .window) (test .polynome);
-      places = delays-most _ _ (test .delay);
-      short = delays-short _ _ (test .delay);
+      places = delays-most _ _ _ _ (test .delay);
+      short = delays-short _ _ _ _ (test .delay);
+      covered = delays-cover _ _ _ _ (test .delay);
       undelayed = both-fst _ _ rest;
       some = counted-some listedMax (r .free .count) _ list;
       few = counted-most listedMax (r .free .count) _ list;
@@ -112,7 +104,7 @@ pub record-kept : (r : PolySeg) → Opens r → allOf noDelay (drop (r .«delay_
     → Kept [] (r .window .start .0) (r .window .end .0) (r .free) → recordOk r ≡ true
 unfolding recordOk
 record-kept r h u k =
-    both-yes _ _ (open-yes _ _ _ _ _ h)
+    both-yes _ _ (eq-eqb _ _ (open-zero _ _ _ _ _ h))
     (both-yes _ _ u
     (both-yes _ _ (le-leb _ _ (k .some)) (both-yes _ _ (le-leb _ _ (k .few)) (both-yes _ _ (k .rules) (k .unused)))))
 
@@ -170,6 +162,17 @@ module _ (r : PolySeg) (q : Facts r) (t v : ℕ) (pos : 1 ≤ v) (i : ℕ) (send
   found-dates =
       let date : r .window .end .0 ≤ dateMax = q .window .date in
       (omega (arith, found-inside .1, found-after), omega (arith, found-inside .1))
+
+  -- by rule 2 it is answered with 0 and its own dates
+  pub found-answers : ruleOf r ≡ 2 → Answers send (answerIn r send)
+  found-answers two =
+      finds-answer (delaysAt r) send
+      (window-finds (ruleOf r) (r .window) (delayList r) (q .covered two) (q .window .some) (send .start .0) (send .end .0) (found-inside .0) (omega (arith, found-after)) (found-inside .1))
+
+  -- and received as 02's words say
+  pub found-received : ruleOf r ≡ 2 → Received (r .window .end .0) (delayList r) (answerIn r send)
+  found-received two =
+      received (ruleOf r) two (r .window) (delayList r) (q .covered two) (q .window .some) send (found-inside .0) (omega (arith, found-after)) (found-inside .1)
 
   -- what the cut's call asks
   pub cut-asks : Inside (r .free) i 0

@@ -30,12 +30,12 @@ use Rattle.poly_seg.specs.declared.Choices.{Choices}
 use Rattle.poly_seg.specs.declared.PolySeg.{PolySeg}
 use Rattle.poly_seg.specs.declared.Opened.{Opened}
 use Rattle.poly_seg.specs.declared.Booked.{Booked}
-use Rattle.poly_seg.specs.Open.{delaysOk, openOf}
+use Rattle.poly_seg.specs.Open.{openOf}
 use Rattle.poly_seg.specs.Record.{recordOk}
 use Rattle.poly_seg.specs.DryRun.{foundOf}
 use Rattle.poly_seg.specs.Book.{bookOf, bookedOf, refusedBooking, withFree}
 use Rattle.poly_seg.specs.Granted.{chosenOf}
-use Rattle.poly_seg.proofs.Lookup.{delays-most}
+use Rattle.poly_seg.proofs.Lookup.{delays-most, by-takes}
 use Rattle.poly_seg.proofs.Opening.{Passed, doneOf, open-done, open-passed}
 use Rattle.poly_seg.proofs.Facts.{facts, record-kept, found-offered}
 use Rattle.poly_seg.proofs.Calls.{chosen-refused, chosen-some, chosen-found, chosen-done}
@@ -48,9 +48,8 @@ zero-delay = refl
 -- its tests look at the first places only
 passed-takes : (h : Choices) (w : Interval) (p : Polynome) (delays delays′ : List DelaySegment) (k : ℕ) → take k delays ≡ take k delays′
     → Passed h w p delays k → Passed h w p delays′ k
-unfolding delaysOk
 passed-takes h w p delays delays′ k e t =
-    record { choices = t .choices; window = t .window; delay = rw (← e) (t .delay); polynome = t .polynome }
+    record { choices = t .choices; window = t .window; delay = sym (by-takes (h .rule .0) w k delays delays′ e) ∙ t .delay; polynome = t .polynome }
 
 module _ (h : Choices) (w : Interval) (p : Polynome) (delays : List DelaySegment) (k : ℕ) (delay-size : length delays ≡ segmentsMax) (zero : openOf h w p delays k .number ≡ 0) where
   abbrev kept : List DelaySegment
@@ -64,7 +63,7 @@ module _ (h : Choices) (w : Interval) (p : Polynome) (delays : List DelaySegment
   unfolding Listed
   opened-keeps =
       let t = open-passed h w p delays k zero in
-      let most = delays-most k delays (t .delay) in
+      let most = delays-most (h .rule .0) w k delays (t .delay) in
       let size : length (take k delays) ≡ k = simp length-take (omega arith) in
       let some = window w (t .window) .some in
       rw opened-manager

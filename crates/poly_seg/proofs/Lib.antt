@@ -7,4 +7,6 @@ pub mod Counting
 pub mod Calls
 pub mod Kept
 pub mod Exact
+pub mod Never8
+pub mod Boundary
 pub mod Unique

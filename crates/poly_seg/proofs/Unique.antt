@@ -8,6 +8,7 @@ use Rattle.units.specs.declared.TxData.{TxData}
 use Rattle.units.specs.declared.Bundle.{Bundle}
 use Rattle.units.proofs.Determined.{Determined}
 use Rattle.segmentation.specs.declared.VolumeSegment.{VolumeSegment}
+use Rattle.segmentation.specs.declared.Rule.{Rule}
 use Rattle.segmentation.specs.declared.DelaySegment.{DelaySegment}
 use Rattle.poly.specs.declared.Polynome.{Polynome}
 use Rattle.poly.specs.declared.terms.Terms.{Terms}
@@ -17,6 +18,7 @@ use Rattle.poly_seg.proofs.Choices.ported.Reads as ported-reads
 use Rattle.poly_seg.proofs.Choices.ok.Reads as choices-ok-reads
 use Rattle.poly_seg.proofs.delay_ok.Reads as delay-ok-reads
 use Rattle.poly_seg.proofs.delays_ok.Reads as delays-ok-reads
+use Rattle.poly_seg.proofs.delays_by.Reads as delays-by-reads
 use Rattle.poly_seg.proofs.bare_segment.Reads as bare-segment-reads
 use Rattle.poly_seg.proofs.bare_ok.Reads as bare-ok-reads
 use Rattle.poly_seg.proofs.end_in.Reads as end-in-reads
@@ -41,6 +43,9 @@ delay-ok-unique s r q x y f g = f ∙ sym g
 
 pub delays-ok-unique : (delays : List DelaySegment) (k : ℕ) → Determined (delays-ok-reads.Post tt (delays, (k, tt)))
 delays-ok-unique delays k r q x y f g = f ∙ sym g
+
+pub delays-by-unique : (rule : Rule) (w : Interval) (delays : List DelaySegment) (k : ℕ) → Determined (delays-by-reads.Post tt (rule, (w, (delays, (k, tt)))))
+delays-by-unique rule w delays k r q x y f g = f ∙ sym g
 
 pub bare-segment-unique : (s : VolumeSegment) (low hi : Date) → Determined (bare-segment-reads.Post tt (s, (low, (hi, tt))))
 bare-segment-unique s low hi r q x y f g = f ∙ sym g

@@ -12,7 +12,6 @@ use Rattle.units.specs.Answer.{refused}
 use Rattle.segmentation.specs.declared.VolumeSegment.{VolumeSegment}
 use Rattle.segmentation.specs.declared.End.{End}
 use Rattle.segmentation.specs.declared.End.the-variants.{None as no-end}
-use Rattle.segmentation.specs.Delay.{answerWith}
 use Rattle.free_list.specs.declared.Found.{Found}
 use Rattle.free_list.specs.declared.Found.the-variants.{At, None}
 use Rattle.free_list.specs.Offer.{up, orElse}
@@ -20,7 +19,7 @@ use Rattle.free_list.specs.Cut.{listed}
 use Rattle.poly.specs.Poly.{capacityTo}
 use Rattle.poly.specs.Search.{wantedOf, findEnd}
 use Rattle.poly_seg.specs.declared.PolySeg.{PolySeg}
-use Rattle.poly_seg.specs.Record.{recordOk, delayList}
+use Rattle.poly_seg.specs.Record.{recordOk, answerIn}
 
 -- the end in a segment, from the later of its start and the asked time t; a segment ending before t has none
 abbrev pub endIn : (ℕ → ℤ) → VolumeSegment → ℕ → ℕ → End
@@ -45,7 +44,7 @@ foundOf r t v = offerOf (capacityOf r) (listed (r .free)) t (sizeOf r v)
 
 -- the number and the dates of what was found; 7 where nothing was
 abbrev pub answerTo : PolySeg → Found → Offer
-answerTo r (At i send) = answerWith (delayList r) send
+answerTo r (At i send) = answerIn r send
 answerTo r None = refused 7
 
 -- the dry run

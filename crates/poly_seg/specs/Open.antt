@@ -2,30 +2,34 @@
 use Prim.Native.Nat.{ℕ}
 use mathlib.Core.Bool.{Bool}
 use mathlib.Core.List.{List, [], _∷_}
-use lib.Dec.{leb}
+use lib.Dec.{leb, eqb}
 use lib.IntN.{pos}
 use lib.ListN.{take, replicate}
 use Rattle.units.specs.declared.Interval.{Interval}
-use Rattle.units.specs.Logic.{both, unless, allOf}
+use Rattle.units.specs.Logic.{both, pick, unless, allOf}
 use Rattle.units.specs.Limits.{segmentsMax, dateMax, delayMax, windowOk}
 use Rattle.units.specs.Answer.{interval}
 use Rattle.units.specs.Arrays.{padded}
 use Rattle.segmentation.specs.declared.DelaySegment.{DelaySegment}
-use Rattle.contact.specs.Segments.{zeroDelay}
+use Rattle.contact.specs.Segments.{zeroDelay, delaysOk as coverOk}
 use Rattle.free_list.specs.Cut.{listIn, wholeWindow}
 use Rattle.poly.specs.declared.Polynome.{Polynome}
 use Rattle.poly.specs.Poly.{polyOk}
 use Rattle.poly_seg.specs.declared.Choices.{Choices}
 use Rattle.poly_seg.specs.declared.Opened.{Opened}
-use Rattle.poly_seg.specs.Choices.{choicesOk}
+use Rattle.poly_seg.specs.Choices.{unchosen, choicesOk}
 
 -- the dates and the delay of a delay segment inside their limits
 unfoldable pub delayOk : DelaySegment → Bool
 delayOk s = both (leb (s .start .0) dateMax) (both (leb (s .end .0) dateMax) (leb (s .delay .0) delayMax))
 
--- refusal 5: only a count above 16 or a number outside its limits
+-- refusal 5 by rule 1: only a count above 16 or a number outside its limits
 unfoldable pub delaysOk : ℕ → List DelaySegment → Bool
 delaysOk n l = both (leb n segmentsMax) (allOf delayOk (take n l))
+
+-- by rule 2 (02, R-4) they cover the window as the other managers' do
+unfoldable pub delaysBy : ℕ → Interval → ℕ → List DelaySegment → Bool
+delaysBy rule w n l = pick (eqb rule 2) (coverOk w n l) (delaysOk n l)
 
 -- a refused opening returns an all-zero record
 abbrev pub refusedOpening : ℕ → Opened
@@ -33,7 +37,7 @@ refusedOpening n =
     record {
       number = n;
       manager = record {
-        choices = record { mode = record { 0 = 0 } };
+        choices = unchosen;
         window = interval 0 0;
         polynome = record { coefficients = replicate 4 (pos 0); offset = record { 0 = 0 } };
         delays = replicate segmentsMax zeroDelay;
@@ -47,7 +51,7 @@ unfoldable pub openOf : Choices → Interval → Polynome → List DelaySegment 
 openOf h w p delays k =
     unless (choicesOk h) (refusedOpening 2)
     (unless (windowOk w) (refusedOpening 3)
-    (unless (delaysOk k delays) (refusedOpening 5)
+    (unless (delaysBy (h .rule .0) w k delays) (refusedOpening 5)
     (unless (polyOk (h .mode .0) p w) (refusedOpening 11)
     (record {
       number = 0;

@@ -10,6 +10,7 @@ use segmentation::DelaySegment;
 use segmentation::Edition;
 use segmentation::End;
 use segmentation::RateSegment;
+use segmentation::Rule;
 use segmentation::VolumeSegment;
 use units::Bundle;
 use units::Date;
@@ -25,24 +26,24 @@ ghost use Prim.Native.Nat.{_≤_};
 ghost use lib.ListN.{take, drop};
 ghost use Rattle.units.specs.Limits.{dateMax, volumeMax, listedMax, windowOk};
 ghost use Rattle.units.specs.Logic.{both, allOf};
-ghost use Rattle.segmentation.specs.Delay.{answerWith};
 ghost use Rattle.contact.specs.Segments.{noVolume};
 ghost use Rattle.free_list.specs.Listed.{segmentOk, listOk};
 ghost use Rattle.free_list.specs.Granted.{Inside};
 ghost use Rattle.poly.specs.Poly.{stepMax};
 ghost use Rattle.poly.specs.Granted.{capacityBy, Ranged};
 ghost use Rattle.poly_seg.specs.Choices.{ported, choicesOk};
-ghost use Rattle.poly_seg.specs.Open.{openOf, refusedOpening, delayOk, delaysOk};
-ghost use Rattle.poly_seg.specs.Record.{recordOk, delayList};
+ghost use Rattle.poly_seg.specs.Open.{openOf, refusedOpening, delayOk, delaysOk, delaysBy};
+ghost use Rattle.poly_seg.specs.Record.{recordOk, answerIn};
 ghost use Rattle.poly_seg.specs.DryRun.{endIn, foundOf, dryRunOf};
 ghost use Rattle.poly_seg.specs.Book.{bookOf, cutFree, refusedBooking};
 ghost use Rattle.poly_seg.specs.List.{listOf};
 ghost use Rattle.poly_seg.specs.Granted.{chosenOf};
 
-// What an opening chooses and the record names: the mode in which capacity is counted.
+// What an opening chooses and the record names: the mode in which capacity is counted and the rule of the delays.
 #[repr(C)]
 pub struct Choices {
     pub mode: Mode,
+    pub rule: Rule,
 }
 
 impl Choices {
@@ -52,6 +53,7 @@ impl Choices {
     {
         Choices {
             mode: Mode(Mode::PORTED),
+            rule: Rule(Rule::FIRST),
         }
     }
 
@@ -59,10 +61,10 @@ impl Choices {
     pub fn ok(self) -> bool
         ensures { λ r. ⌜ r ≡ choicesOk self ⌝ }
     {
-        if self.mode.0 < Mode::PORTED {
+        if !units::one_or_two(self.mode.0) {
             return false;
         }
-        self.mode.0 <= Mode::EXACT
+        units::one_or_two(self.rule.0)
     }
 }
 
@@ -128,6 +130,21 @@ pub fn delays_ok(delays: [DelaySegment; DelaySegment::COUNT_MAX], count: usize) 
         }
         i += 1;
     }
+}
+
+// The delay list by the rule: by rule 2 it covers the window as the other managers' do.
+pub fn delays_by(
+    rule: Rule,
+    window: Interval,
+    delays: [DelaySegment; DelaySegment::COUNT_MAX],
+    count: usize,
+) -> bool
+    ensures { λ r. ⌜ r ≡ delaysBy (rule .0) window count delays ⌝ }
+{
+    if rule.0 == Rule::SECOND {
+        return contact::test::delays_are(delays, count, window);
+    }
+    delays_ok(delays, count)
 }
 
 // A listed segment in its turn: in the window from a date on, forward, with no volume.
@@ -214,7 +231,10 @@ impl PolySeg {
         Opened {
             number: number,
             manager: PolySeg {
-                choices: Choices { mode: Mode(0) },
+                choices: Choices {
+                    mode: Mode(0),
+                    rule: Rule(0),
+                },
                 window: Interval {
                     start: Date(0),
                     end: Date(0),
@@ -239,7 +259,32 @@ impl PolySeg {
         }
     }
 
-    // new and try_init: 2 for a choice that there is not, then 3, 5, 11 in this order; the whole window is listed, bare.
+    // The number of an opening with these figures, which a record's own are held to: 2 for a choice that there is not, then 3, 5, 11 in this order.
+    fn opening(
+        choices: Choices,
+        window: Interval,
+        polynome: Polynome,
+        delays: [DelaySegment; DelaySegment::COUNT_MAX],
+        delay_count: usize,
+    ) -> u8
+        ensures { λ r. ⌜ r ≡ openOf choices window polynome delays «delay_count» .number ⌝ }
+    {
+        if !choices.ok() {
+            return units::refusal::CHOICE;
+        }
+        if !window.is_window() {
+            return units::refusal::WINDOW;
+        }
+        if !delays_by(choices.rule, window, delays, delay_count) {
+            return units::refusal::DELAYS;
+        }
+        if !polynome.ok(choices.mode, window) {
+            return units::refusal::POLYNOMIAL;
+        }
+        0
+    }
+
+    // new and try_init: refused with that number; the whole window is listed, bare.
     pub fn open(
         choices: Choices,
         window: Interval,
@@ -249,17 +294,9 @@ impl PolySeg {
     ) -> Opened
         ensures { λ r. ⌜ r ≡ openOf choices window polynome delays «delay_count» ⌝ }
     {
-        if !choices.ok() {
-            return PolySeg::refused_opening(units::refusal::CHOICE);
-        }
-        if !window.is_window() {
-            return PolySeg::refused_opening(units::refusal::WINDOW);
-        }
-        if !delays_ok(delays, delay_count) {
-            return PolySeg::refused_opening(units::refusal::DELAYS);
-        }
-        if !polynome.ok(choices.mode, window) {
-            return PolySeg::refused_opening(units::refusal::POLYNOMIAL);
+        let number = PolySeg::opening(choices, window, polynome, delays, delay_count);
+        if number != 0 {
+            return PolySeg::refused_opening(number);
         }
         let kept = contact::opening::delays_of(delays, delay_count);
         let free = FreeList::whole(window, Volume(0));
@@ -288,16 +325,7 @@ impl PolySeg {
         let free = self.free;
         let segments = free.segments;
         let n = free.count;
-        if !choices.ok() {
-            return false;
-        }
-        if !window.is_window() {
-            return false;
-        }
-        if !delays_ok(delays, k) {
-            return false;
-        }
-        if !polynome.ok(choices.mode, window) {
+        if PolySeg::opening(choices, window, polynome, delays, k) != 0 {
             return false;
         }
         if !contact::test::delays_unused(delays, k) {
@@ -349,11 +377,13 @@ impl PolySeg {
     // The offer of a send interval, with its delays.
     fn answer(self, send: Interval) -> Offer
         requires { ⌜ recordOk self ≡ true ⌝ ∗ ⌜ (send .start .0 ≤ dateMax) × (send .end .0 ≤ dateMax) ⌝ }
-        ensures { λ r. ⌜ r ≡ answerWith (delayList self) send ⌝ }
+        ensures { λ r. ⌜ r ≡ answerIn self send ⌝ }
     {
+        let choices = self.choices;
+        let rule = choices.rule;
         let delays = self.delays;
         let k = self.delay_count;
-        segmentation::answer_at(delays, k, send)
+        segmentation::answer_at(rule, delays, k, send)
     }
 
     // What a dry run finds on a record that keeps its rules: its answer, and where it comes from.

@@ -4,6 +4,7 @@ use poly::Mode;
 use poly::terms::Terms;
 use poly_seg::Choices;
 use segmentation::End;
+use segmentation::Rule;
 use units::Date;
 use units::Interval;
 use words::LISTED;
@@ -22,7 +23,7 @@ ghost use Rattle.words.specs.Words.{volumesIn};
 ghost use Rattle.poly_words.specs.Words.{choicesIn};
 
 // The numbers of a record's choices, one to a choice.
-pub const CHOICES: usize = 1;
+pub const CHOICES: usize = 2;
 
 // Lent as a slice, an array tells its length; no code is left of it.
 fn told(words: &[u64]) {}
@@ -33,6 +34,7 @@ pub fn choices_at(choices: &[u64; CHOICES]) -> Choices
 {
     Choices {
         mode: Mode(choices[0]),
+        rule: Rule(choices[1]),
     }
 }
 

@@ -14,7 +14,7 @@ use Rattle.units.specs.Granted.{refusalOf}
 use Rattle.units.proofs.Logic.{no-both}
 use Rattle.units.proofs.Booking.{refusal-none, booking-refused, booking-fits}
 use Rattle.units.proofs.Loads.{asked-load, load}
-use Rattle.contact.specs.Record.{delayList}
+use Rattle.contact.specs.Record.{delaysAt}
 use Rattle.contact.proofs.Offers.{refused-offers, offers-send, answer-not-two}
 use Rattle.bookings.specs.declared.Run.{Run}
 use Rattle.bookings.specs.declared.Run.the-variants.{Idle, Going, Sent}
@@ -27,13 +27,13 @@ use Rattle.pseg.proofs.Calls.{dry-bundle, dry-fits, book-kept, book-at}
 
 -- where the bundle fits, the answer's number is 0, 7 or 8
 run-not-two : (r : PrioritySeg) (x : Run) → answerTo r x .number ≡ 2 → ⊥
-run-not-two r (Sent send) h = answer-not-two (delayList (r .contact)) send h
+run-not-two r (Sent send) h = answer-not-two (delaysAt (r .contact)) send h
 run-not-two r (Going send) h = omega (arith, h)
 run-not-two r Idle h = omega (arith, h)
 
 -- dates that match the answer are those of the run that was found
 run-sends : (r : PrioritySeg) (x : Run) (d : TxData) → offers (answerTo r x) d ≡ true → x ≡ Sent (d .send)
-run-sends r (Sent send) d h = ap (λ (i : Interval). Sent i) (offers-send (delayList (r .contact)) send d h)
+run-sends r (Sent send) d h = ap (λ (i : Interval). Sent i) (offers-send (delaysAt (r .contact)) send d h)
 run-sends r (Going send) d h = absurd (no-both h (refused-offers 7 d (λ z. omega arith)))
 run-sends r Idle d h = absurd (no-both h (refused-offers 7 d (λ z. omega arith)))
 

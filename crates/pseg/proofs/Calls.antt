@@ -13,8 +13,7 @@ use Rattle.units.specs.Logic.{unless}
 use Rattle.units.specs.Limits.{bundleOk}
 use Rattle.units.specs.Answer.{refused, offers}
 use Rattle.units.proofs.Logic.{unless-go, unless-stop}
-use Rattle.segmentation.specs.Delay.{answerWith}
-use Rattle.contact.specs.Record.{delayList}
+use Rattle.contact.specs.Record.{answerIn}
 use Rattle.bookings.specs.declared.Run.{Run}
 use Rattle.bookings.specs.declared.Run.the-variants.{Idle, Going, Sent}
 use Rattle.bookings.proofs.Run.{the-type}
@@ -68,7 +67,7 @@ module _ (r : PrioritySeg) (at : Date) (b : Bundle) where
       pub dry-none : (x : Run) → runOf r (at .0) b ≡ x → Unsent x → dryRunOf r at b ≡ refused 7
       dry-none x e u = dry-fits ∙ ap (answerTo r) e ∙ unsent-answer r x u
 
-      pub dry-at : (send : Interval) → runOf r (at .0) b ≡ Sent send → dryRunOf r at b ≡ answerWith (delayList (r .contact)) send
+      pub dry-at : (send : Interval) → runOf r (at .0) b ≡ Sent send → dryRunOf r at b ≡ answerIn (r .contact) send
       dry-at send e = dry-fits ∙ ap (answerTo r) e
 
       pub book-at : (d : TxData) (send : Interval) → runOf r (at .0) b ≡ Sent send → offers (dryRunOf r at b) d ≡ true

@@ -16,7 +16,9 @@ use Rattle.units.proofs.Arrays.{take-padded, unused-padded}
 use Rattle.segmentation.specs.Capacity.{topOf}
 use Rattle.segmentation.proofs.EndLaws.{Ends, end-ends}
 use Rattle.contact.specs.declared.Contact.{Contact}
-use Rattle.contact.specs.Record.{contactOk, ratesOf, editionOf}
+use Rattle.contact.specs.Record.{contactOk, ratesOf, editionOf, delayList, answerIn}
+use Rattle.contact.specs.Boundary.{Received}
+use Rattle.contact.proofs.Lookup.{Answers, contact-answers, contact-received}
 use Rattle.contact.proofs.Sound.{Sound, sound}
 use Rattle.bookings.specs.declared.BookingSegment.{BookingSegment}
 use Rattle.bookings.specs.declared.Run.the-variants.{Sent}
@@ -90,6 +92,14 @@ module _ (r : PrioritySeg) (q : Facts r) (t : ℕ) (b : Bundle) (send : Interval
     -- its end is the end rule's, by the window's end
     pub found-ends : Ends (editionOf (r .contact)) (ratesOf (r .contact)) (topOf (ratesOf (r .contact))) (send .start .0) (b .size .0) (r .contact .window .end .0) (send .end .0)
     found-ends = end-ends (ratesOf (r .contact)) (send .start .0) (b .size .0) pos (editionOf (r .contact)) (r .contact .window .end .0) (send .end) (found-free .ends)
+
+    -- so it is answered with 0 and its own dates
+    pub found-answers : Answers send (answerIn (r .contact) send)
+    found-answers = contact-answers (r .contact) (q .contact) send (found-free .low) (found-ends .forth) (found-ends .by)
+
+    -- and by rule 2 received as 02's words say
+    pub found-received : r .contact .choices .rule .0 ≡ 2 → Received (r .contact .window .end .0) (delayList (r .contact)) (answerIn (r .contact) send)
+    found-received two = contact-received (r .contact) (q .contact) two send (found-free .low) (found-ends .forth) (found-ends .by)
 
     -- its dates are in the window
     found-dates : (send .start .0 ≤ dateMax) × (send .end .0 ≤ dateMax)

@@ -4,3 +4,5 @@ pub mod ByDryRun
 pub mod Kept
 pub mod Unique
 pub mod Second
+pub mod Never8
+pub mod Boundary

@@ -12,13 +12,12 @@ use Rattle.units.proofs.Loads.{asked-load, load}
 use Rattle.units.proofs.Booking.{answer-done}
 use Rattle.segmentation.proofs.EndLaws.{end-after}
 use Rattle.contact.specs.Record.{ratesOf, editionOf}
-use Rattle.contact.proofs.Lookup.{contact-answers}
 use Rattle.bookings.specs.declared.Run.{Run}
 use Rattle.bookings.specs.declared.Run.the-variants.{Idle, Going, Sent}
 use Rattle.pseg.specs.declared.PrioritySeg.{PrioritySeg}
 use Rattle.pseg.specs.Record.{recordOk}
 use Rattle.pseg.specs.DryRun.{runOf, answerTo, dryRunOf}
-use Rattle.pseg.proofs.Facts.{Facts, facts, found-free, found-ends}
+use Rattle.pseg.proofs.Facts.{Facts, facts, found-free, found-answers}
 
 pub found-after : (r : PrioritySeg) (q : Facts r) → editionOf (r .contact) ≡ 2 → (t : ℕ) (b : Bundle) → 0 < b .size .0 → (send : Interval) → runOf r t b ≡ Sent send
     → send .start .0 < send .end .0
@@ -31,8 +30,7 @@ module _ (r : PrioritySeg) (at : Date) (b : Bundle) (two : editionOf (r .contact
   answer-after ok fits (Sent send) e z =
       let q = facts r ok in
       let pos = load b (asked-load at b fits) .some in
-      let ends = found-ends r q (at .0) b send e pos in
-      rw (contact-answers (r .contact) (q .contact) send (ends .forth) (ends .by) .1) (found-after r q two (at .0) b pos send e)
+      rw (found-answers r q (at .0) b send e pos .sends) (found-after r q two (at .0) b pos send e)
   answer-after ok fits (Going send) e z = absurd (omega (arith, z))
   answer-after ok fits Idle e z = absurd (omega (arith, z))
 

@@ -6,8 +6,7 @@ use Rattle.units.specs.declared.Offer.{Offer}
 use Rattle.units.specs.Logic.{unless}
 use Rattle.units.specs.Limits.{bundleOk}
 use Rattle.units.specs.Answer.{refused}
-use Rattle.segmentation.specs.Delay.{answerWith}
-use Rattle.contact.specs.Record.{ratesOf, editionOf, delayList}
+use Rattle.contact.specs.Record.{ratesOf, editionOf, answerIn}
 use Rattle.bookings.specs.declared.Run.{Run}
 use Rattle.bookings.specs.declared.Run.the-variants.{Idle, Going, Sent}
 use Rattle.bookings.specs.Listed.{listed}
@@ -22,7 +21,7 @@ runOf r t b =
 
 -- the number and the dates of what was found; 7 where no run reached its end
 abbrev pub answerTo : PrioritySeg → Run → Offer
-answerTo r (Sent send) = answerWith (delayList (r .contact)) send
+answerTo r (Sent send) = answerIn (r .contact) send
 answerTo r (Going send) = refused 7
 answerTo r Idle = refused 7
 

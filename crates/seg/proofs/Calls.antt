@@ -17,8 +17,8 @@ use Rattle.units.specs.Answer.{refused, offers}
 use Rattle.units.specs.Granted.{refusalOf}
 use Rattle.units.proofs.Logic.{unless-go, unless-stop}
 use Rattle.units.proofs.Loads.{asked-load, load}
-use Rattle.segmentation.specs.declared.DelaySegment.{DelaySegment}
-use Rattle.contact.specs.Record.{editionOf, ratesOf, delayList}
+use Rattle.segmentation.specs.declared.Delays.{Delays}
+use Rattle.contact.specs.Record.{editionOf, ratesOf, delaysAt}
 use Rattle.free_list.specs.declared.Found.{Found}
 use Rattle.free_list.specs.declared.Found.the-variants.{At, None}
 use Rattle.free_list.specs.declared.Cut.{Cut}
@@ -60,26 +60,26 @@ module _ (r : FreeVolume) (at : Date) (b : Bundle) where
   abbrev fits : Bool
   fits = bundleOk at b
 
-  abbrev delays : List DelaySegment
-  delays = delayList (r .contact)
+  abbrev find : ℕ → ℕ → Delays
+  find = delaysAt (r .contact)
 
   abbrev found : Found
   found = foundOf r (at .0) (b .size .0)
 
   pub chosen-bundle : bundleOk at b ≡ false → chosenOf r at b ≡ noneChosen 2
   unfolding chosenOf
-  chosen-bundle e = chosen-stop fits delays found e
+  chosen-bundle e = chosen-stop fits find found e
 
-  pub chosen-as : {f : Found} → bundleOk at b ≡ true → foundOf r (at .0) (b .size .0) ≡ f → chosenOf r at b ≡ chosenAt (delayList (r .contact)) f
+  pub chosen-as : {f : Found} → bundleOk at b ≡ true → foundOf r (at .0) (b .size .0) ≡ f → chosenOf r at b ≡ chosenAt (delaysAt (r .contact)) f
   unfolding chosenOf
-  chosen-as q e = by-found fits delays found q e
+  chosen-as q e = by-found fits find found q e
 
   module _ (ok : recordOk r ≡ true) where
     pub chosen-offer : chosenOf r at b .offer ≡ dryRunOf r at b
     unfolding chosenOf dryRunOf
     chosen-offer = same-offer fits found ∙ sym (unless-go _ _ _ ok)
       where
-        same-offer : (c : Bool) (f : Found) → chosenIn c delays f .offer ≡ unless c (refused 2) (answerTo r f)
+        same-offer : (c : Bool) (f : Found) → chosenIn c find f .offer ≡ unless c (refused 2) (answerTo r f)
         same-offer true (At i send) = refl
         same-offer true None = refl
         same-offer false f = refl
@@ -91,7 +91,7 @@ module _ (r : FreeVolume) (at : Date) (b : Bundle) where
       abbrev done : Found → Booked
       done f = bookedAt r f (b .size .0)
 
-      book-is : bookOf r at b d ≡ table fits delays found d refuse done
+      book-is : bookOf r at b d ≡ table fits find found d refuse done
       unfolding bookOf chosenOf
       book-is =
           unless-go _ _ _ ok
@@ -99,21 +99,21 @@ module _ (r : FreeVolume) (at : Date) (b : Bundle) where
 
       pub chosen-refused : (refusalOf (chosenOf r at b .offer) d ≡ 0 → ⊥) → bookOf r at b d ≡ refusedBooking (refusalOf (chosenOf r at b .offer) d) r
       unfolding chosenOf
-      chosen-refused some = book-is ∙ table-refused fits delays found d refuse done some
+      chosen-refused some = book-is ∙ table-refused fits find found d refuse done some
 
       module _ (none : refusalOf (chosenOf r at b .offer) d ≡ 0) where
         pub chosen-fits : bundleOk at b ≡ true
         unfolding chosenOf
-        chosen-fits = table-fits fits delays found d refuse done none
+        chosen-fits = table-fits fits find found d refuse done none
 
         -- the dates send what the search found
         pub chosen-found : foundOf r (at .0) (b .size .0) ≡ At (chosenOf r at b .place) (d .send)
         unfolding chosenOf
-        chosen-found = table-found fits delays found d refuse done none
+        chosen-found = table-found fits find found d refuse done none
 
         pub chosen-done : (bookOf r at b d ≡ bookedBy r (cutFree r (chosenOf r at b .place) (d .send) (b .size .0))) × Inside (r .free) (chosenOf r at b .place) (b .size .0)
         unfolding chosenOf
         chosen-done = (
-          book-is ∙ table-done fits delays found d refuse done none ∙ booked-by r (facts r ok) _ _ _,
+          book-is ∙ table-done fits find found d refuse done none ∙ booked-by r (facts r ok) _ _ _,
           cut-asks r (facts r ok) (at .0) (b .size .0) (load b (asked-load at b chosen-fits) .some) (chosenOf r at b .place) (d .send) chosen-found,
         )

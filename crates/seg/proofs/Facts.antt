@@ -15,7 +15,9 @@ use Rattle.units.proofs.Logic.{both-fst, both-snd, both-yes}
 use Rattle.units.proofs.Counted.{counted-some, counted-most, counted-holds}
 use Rattle.segmentation.specs.Capacity.{topOf}
 use Rattle.contact.specs.Segments.{noVolume}
-use Rattle.contact.specs.Record.{contactOk, ratesOf, editionOf, endRule}
+use Rattle.contact.specs.Record.{contactOk, ratesOf, editionOf, endRule, delayList, answerIn}
+use Rattle.contact.specs.Boundary.{Received}
+use Rattle.contact.proofs.Lookup.{Answers, contact-answers, contact-received}
 use Rattle.contact.proofs.Sound.{Sound, sound}
 use Rattle.free_list.specs.declared.Found.the-variants.{At}
 use Rattle.free_list.specs.declared.Cut.{Cut}
@@ -106,13 +108,24 @@ module _ (r : FreeVolume) (q : Facts r) (t v : ℕ) (pos : 0 < v) (i : ℕ) (sen
       (exact-laws (editionOf (r .contact)) (ratesOf (r .contact)) (r .contact .window .start .0)) pos (listed (r .free)) (r .contact .window .start .0) i (q .free) (le-refl _) h
 
   -- its dates are in the window
-  found-dates : (send .start .0 ≤ dateMax) × (send .end .0 ≤ dateMax)
-  found-dates =
+  pub found-inside : (r .contact .window .start .0 ≤ send .start .0) × (send .start .0 ≤ send .end .0) × (send .end .0 ≤ r .contact .window .end .0)
+  found-inside =
       let l = ratesOf (r .contact) in
       let in-window = offered-inside (editionOf (r .contact)) l (topOf l) (r .contact .window .end .0) (send .start .0) (send .end .0) v (listed (r .free)) _ i (q .free) found-offered in
-      let forth = offered-ends (editionOf (r .contact)) l (topOf l) (send .start .0) (send .end .0) v (listed (r .free)) i found-offered .1 .forth in
+      (in-window .0, offered-ends (editionOf (r .contact)) l (topOf l) (send .start .0) (send .end .0) v (listed (r .free)) i found-offered .1 .forth, in-window .1)
+
+  -- so it is answered with 0 and its own dates
+  pub found-answers : Answers send (answerIn (r .contact) send)
+  found-answers = contact-answers (r .contact) (q .contact) send (found-inside .0) (found-inside .1) (found-inside .2)
+
+  -- and by rule 2 received as 02's words say
+  pub found-received : r .contact .choices .rule .0 ≡ 2 → Received (r .contact .window .end .0) (delayList (r .contact)) (answerIn (r .contact) send)
+  found-received two = contact-received (r .contact) (q .contact) two send (found-inside .0) (found-inside .1) (found-inside .2)
+
+  found-dates : (send .start .0 ≤ dateMax) × (send .end .0 ≤ dateMax)
+  found-dates =
       let date : r .contact .window .end .0 ≤ dateMax = q .contact .date in
-      (omega (arith, in-window .1, forth), omega (arith, in-window .1))
+      (omega (arith, found-inside .1, found-inside .2), omega (arith, found-inside .2))
 
   -- what the answer's call asks
   pub answer-asks : (contactOk (r .contact) ≡ true) × ((send .start .0 ≤ dateMax) × (send .end .0 ≤ dateMax))

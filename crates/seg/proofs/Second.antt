@@ -23,7 +23,6 @@ use Rattle.contact.specs.Open.{totalOf, contactOf}
 use Rattle.contact.specs.Record.{ratesOf, editionOf, endRule, totalIn}
 use Rattle.contact.proofs.Sound.{sound}
 use Rattle.contact.proofs.Total.{window-total}
-use Rattle.contact.proofs.Lookup.{contact-answers}
 use Rattle.free_list.specs.declared.Found.{Found}
 use Rattle.free_list.specs.declared.Found.the-variants.{At, None}
 use Rattle.free_list.specs.Cut.{listed, cutOf, wholeWindow}
@@ -37,7 +36,7 @@ use Rattle.seg.specs.Record.{recordOk}
 use Rattle.seg.specs.Open.{openOf}
 use Rattle.seg.specs.DryRun.{foundOf, answerTo, dryRunOf}
 use Rattle.seg.specs.Book.{bookOf}
-use Rattle.seg.proofs.Facts.{Facts, facts, found-offered}
+use Rattle.seg.proofs.Facts.{Facts, facts, found-offered, found-answers}
 use Rattle.seg.proofs.Kept.{opened-manager, opened-contact, opened-full, Refused, Accepted, book-cases}
 use Rattle.seg.proofs.RoomBounds.{listedTime, booked-falls}
 
@@ -61,11 +60,7 @@ module _ (r : FreeVolume) (at : Date) (b : Bundle) (two : editionOf (r .contact)
   answer-after ok fits (At i send) e z =
       let q = facts r ok in
       let pos = load b (asked-load at b fits) .some in
-      let l = ratesOf (r .contact) in
-      let after = found-after r q two (at .0) (b .size .0) pos i send e in
-      let o = found-offered r q (at .0) (b .size .0) pos i send e in
-      let by = offered-by (editionOf (r .contact)) l (topOf l) (r .contact .window .end .0) _ _ (b .size .0) (listed (r .free)) _ i (q .free) o in
-      rw (contact-answers (r .contact) (q .contact) send (omega arith) by .1) after
+      rw (found-answers r q (at .0) (b .size .0) pos i send e .sends) (found-after r q two (at .0) (b .size .0) pos i send e)
   answer-after ok fits None e z = absurd (omega (arith, z))
 
   pub offer-after : dryRunOf r at b .number ≡ 0 → dryRunOf r at b .dates .send .start .0 < dryRunOf r at b .dates .send .end .0

@@ -6,8 +6,7 @@ use Rattle.units.specs.declared.Offer.{Offer}
 use Rattle.units.specs.Logic.{unless}
 use Rattle.units.specs.Limits.{bundleOk}
 use Rattle.units.specs.Answer.{refused}
-use Rattle.segmentation.specs.Delay.{answerWith}
-use Rattle.contact.specs.Record.{endRule, delayList}
+use Rattle.contact.specs.Record.{endRule, answerIn}
 use Rattle.free_list.specs.declared.Found.{Found}
 use Rattle.free_list.specs.declared.Found.the-variants.{At, None}
 use Rattle.free_list.specs.Offer.{offerOf}
@@ -21,7 +20,7 @@ foundOf r t v = offerOf (endRule (r .contact)) (listed (r .free)) t v
 
 -- the number and the dates of what was found; 7 where nothing was
 abbrev pub answerTo : FreeVolume → Found → Offer
-answerTo r (At i send) = answerWith (delayList (r .contact)) send
+answerTo r (At i send) = answerIn (r .contact) send
 answerTo r None = refused 7
 
 -- the dry run

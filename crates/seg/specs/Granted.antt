@@ -2,7 +2,7 @@
 use Rattle.units.specs.declared.Date.{Date}
 use Rattle.units.specs.declared.Bundle.{Bundle}
 use Rattle.units.specs.Limits.{bundleOk}
-use Rattle.contact.specs.Record.{delayList}
+use Rattle.contact.specs.Record.{delaysAt}
 use Rattle.free_list.specs.declared.Chosen.{Chosen}
 use Rattle.free_list.specs.declared.Cut.{Cut}
 use Rattle.free_list.specs.Granted.{chosenIn}
@@ -13,7 +13,7 @@ use Rattle.seg.specs.DryRun.{foundOf}
 
 -- what a dry run finds on a record that keeps its rules
 unfoldable pub chosenOf : FreeVolume → Date → Bundle → Chosen
-chosenOf r at b = chosenIn (bundleOk at b) (delayList (r .contact)) (foundOf r (at .0) (b .size .0))
+chosenOf r at b = chosenIn (bundleOk at b) (delaysAt (r .contact)) (foundOf r (at .0) (b .size .0))
 
 -- what a cut leaves of a record, refused or done
 abbrev pub bookedBy : FreeVolume → Cut → Booked

@@ -1,40 +1,65 @@
 -- What may be used of the delays: where they are found, that they are short, and the answer made of them.
 use Prim.Native.Nat.{ℕ, _+_, _<_, _≤_}
-use mathlib.Core.Path.{_≡_, refl}
+use mathlib.Core.Bool.{Bool, true, false}
+use mathlib.Core.Path.{_≡_, refl, sym, ap, _∙_}
 use mathlib.Core.List.{List, [], _∷_}
 use mathlib.Core.Logic.{⊎-elim, _⊎_, inl, inr}
 use native.Mathlib.Omega.{arith}
-use lib.Dec.{leb}
+use lib.Dec.{leb, ltb, eqb}
 use lib.ListN.{length}
-use borrow.Author.Tests.{leb-false}
+use borrow.Author.Tests.{le-leb, lt-leb, leb-true, leb-false, lt-ltb, eq-eqb, ne-eqb}
 use Rattle.units.specs.Limits.{delayMax}
+use Rattle.units.specs.Logic.{both, pick}
 use Rattle.units.specs.Answer.{interval, refused}
 use Rattle.units.specs.declared.Delay.{Delay}
 use Rattle.units.specs.declared.Interval.{Interval}
 use Rattle.units.specs.declared.Offer.{Offer}
-use Rattle.units.proofs.Logic.{pick-keeps}
+use Rattle.units.proofs.Logic.{both-go, both-fst, both-snd, both-yes, no-both, pick-keeps}
 use Rattle.segmentation.specs.declared.DelaySegment.{DelaySegment}
 use Rattle.segmentation.specs.declared.Delays.{Delays}
 use Rattle.segmentation.specs.declared.Delays.the-variants.{Of, None}
-use Rattle.segmentation.specs.Delay.{fromDate, heads, delaysOf, answerOf}
+use Rattle.segmentation.specs.Delay.{liesIn, belongs, fromDate, heads, delaysOf, answerOf}
 use Rattle.segmentation.specs.Granted.{Short, AllShort}
 
--- some segment's end is not before the date
-unfoldable pub Reaches : ℕ → List DelaySegment → Type 0
-Reaches t [] = ⊥
-Reaches t (d ∷ l) = (t ≤ d .end .0) ⊎ (Reaches t l)
+-- What a date belongs to, by either rule.
+module _ (rule t : ℕ) (d : DelaySegment) where
+  -- by rule 1 it is the end that tells
+  pub belongs-first : (n : ℕ) → eqb rule 2 ≡ false → belongs rule t d n ≡ leb t (d .end .0)
+  unfolding belongs
+  belongs-first n h = simp h
 
--- where the segments end (a where there are none)
-unfoldable pub lastEnd : ℕ → List DelaySegment → ℕ
-lastEnd a [] = a
-lastEnd a (d ∷ l) = lastEnd (d .end .0) l
+  pub belongs-second : (n : ℕ) → eqb rule 2 ≡ true → belongs rule t d n ≡ liesIn t d n
+  unfolding belongs
+  belongs-second n h = simp h
 
--- so it is up to the last one's end
-pub reaches-last : (l : List DelaySegment) (a t : ℕ) → 0 < length l → t ≤ lastEnd a l → Reaches t l
-unfolding Reaches lastEnd
-reaches-last [] a t p h = absurd (omega arith)
-reaches-last (d ∷ []) a t p h = inl h
-reaches-last (d ∷ x ∷ l) a t p h = inr (reaches-last (x ∷ l) (d .end .0) t (omega arith) h)
+  module _ (low : d .start .0 ≤ t) where
+    pub belongs-inside : (n : ℕ) → t < d .end .0 → belongs rule t d n ≡ true
+    unfolding belongs
+    belongs-inside n h =
+        let by : t ≤ d .end .0 = omega arith in
+        pick-keeps (λ (b : Bool). b ≡ true) (eqb rule 2) (liesIn t d n) (leb t (d .end .0))
+        (λ c. both-yes _ _ (le-leb _ _ low)
+        (pick-keeps (λ (b : Bool). b ≡ true) (eqb n 0) (leb t (d .end .0)) (ltb t (d .end .0)) (λ z. le-leb _ _ by) (λ z. lt-ltb t (d .end .0) h)))
+        (λ c. le-leb _ _ by)
+
+    pub belongs-last : t ≤ d .end .0 → belongs rule t d 0 ≡ true
+    unfolding belongs
+    belongs-last h =
+        pick-keeps (λ (b : Bool). b ≡ true) (eqb rule 2) (liesIn t d 0) (leb t (d .end .0))
+        (λ c. both-yes _ _ (le-leb _ _ low) (le-leb _ _ h))
+        (λ c. le-leb _ _ h)
+
+-- the test of the end by rule 2: of the last segment, and of another
+pub lies-last : (n a b : ℕ) → n ≡ 0 → pick (eqb n 0) (leb a b) (ltb a b) ≡ leb a b
+lies-last n a b h = simp (eq-eqb n 0 h)
+
+pub lies-before : (n a b : ℕ) → (n ≡ 0 → ⊥) → pick (eqb n 0) (leb a b) (ltb a b) ≡ ltb a b
+lies-before n a b h = simp (ne-eqb n 0 h)
+
+-- the date belongs to some segment
+unfoldable pub Reaches : ℕ → ℕ → List DelaySegment → Type 0
+Reaches rule t [] = ⊥
+Reaches rule t (d ∷ l) = (belongs rule t d (length l) ≡ true) ⊎ (Reaches rule t l)
 
 -- both lookups find a segment
 pub record Finds (r : Delays) : Type 0 where
@@ -42,34 +67,53 @@ pub record Finds (r : Delays) : Type 0 where
   pub last : Delay
   pub is : r ≡ Of first last
 
--- a lookup passes no segment that a later date needs
-from-reaches : (l : List DelaySegment) (s e : ℕ) → s ≤ e → Reaches e l → Reaches e (fromDate l s)
+-- by rule 1 a lookup passes no segment that a later date needs
+from-reaches : (rule : ℕ) → eqb rule 2 ≡ false → (l : List DelaySegment) (s e : ℕ) → s ≤ e → Reaches rule e l → Reaches rule e (fromDate rule l s)
 unfolding Reaches fromDate
-from-reaches [] s e h r = r
-from-reaches (d ∷ l) s e h r =
-    pick-keeps (λ (k : List DelaySegment). Reaches e k) (leb s (d .end .0)) (d ∷ l) (fromDate l s)
+from-reaches rule one [] s e h r = r
+from-reaches rule one (d ∷ l) s e h r =
+    pick-keeps (λ (k : List DelaySegment). Reaches rule e k) (belongs rule s d (length l)) (d ∷ l) (fromDate rule l s)
     (λ c. r)
     (λ c.
-    let past : d .end .0 < s = leb-false _ _ c in
-    ⊎-elim (λ (z : e ≤ d .end .0). absurd (omega arith)) (λ z. from-reaches l s e h z) r)
+    let past : d .end .0 < s = leb-false _ _ (sym (belongs-first rule s d (length l) one) ∙ c) in
+    ⊎-elim
+    (λ (z : belongs rule e d (length l) ≡ true).
+    let by : e ≤ d .end .0 = leb-true _ _ (sym (belongs-first rule e d (length l) one) ∙ z) in
+    absurd (omega arith))
+    (λ z. from-reaches rule one l s e h z) r)
 
-heads-find : (l k : List DelaySegment) (e : ℕ) → Reaches e l → Reaches e k → Finds (heads l k)
-unfolding Reaches
-heads-find [] k e h r = absurd h
-heads-find (a ∷ l) [] e h r = absurd r
-heads-find (a ∷ l) (b ∷ k) e h r = record { first = a .delay; last = b .delay; is = refl }
+-- what a lookup finds is there, by either rule
+Some : List DelaySegment → Type 0
+Some [] = ⊥
+Some (d ∷ l) = Unit
 
-pub delays-find : (l : List DelaySegment) (s e : ℕ) → s ≤ e → Reaches e l → Finds (delaysOf l s e)
+from-some : (rule : ℕ) (l : List DelaySegment) (t : ℕ) → Reaches rule t l → Some (fromDate rule l t)
+unfolding Reaches fromDate Some
+from-some rule [] t r = r
+from-some rule (d ∷ l) t r =
+    pick-keeps Some (belongs rule t d (length l)) (d ∷ l) (fromDate rule l t)
+    (λ c. tt)
+    (λ c. ⊎-elim (λ z. absurd (no-both z c)) (λ z. from-some rule l t z) r)
+
+heads-find : (l k : List DelaySegment) → Some l → Some k → Finds (heads l k)
+unfolding Some
+heads-find [] k h r = absurd h
+heads-find (a ∷ l) [] h r = absurd r
+heads-find (a ∷ l) (b ∷ k) h r = record { first = a .delay; last = b .delay; is = refl }
+
+pub delays-find : (rule : ℕ) (l : List DelaySegment) (s e : ℕ) → s ≤ e → Reaches rule s l → Reaches rule e l → Finds (delaysOf rule l s e)
 unfolding delaysOf
-delays-find l s e h r =
-    let at = from-reaches l s e h r in
-    heads-find (fromDate l s) (fromDate (fromDate l s) e) e at (from-reaches (fromDate l s) e e (omega arith) at)
+delays-find rule l s e h p q =
+    heads-find (fromDate rule l s) (fromDate rule (pick (eqb rule 2) l (fromDate rule l s)) e)
+    (from-some rule l s p)
+    (from-some rule _ e
+    (pick-keeps (λ (k : List DelaySegment). Reaches rule e k) (eqb rule 2) l (fromDate rule l s) (λ c. q) (λ c. from-reaches rule c l s e h q)))
 
-from-short : (l : List DelaySegment) (t : ℕ) → AllShort l → AllShort (fromDate l t)
+from-short : (rule : ℕ) (l : List DelaySegment) (t : ℕ) → AllShort l → AllShort (fromDate rule l t)
 unfolding AllShort fromDate
-from-short [] t h = tt
-from-short (d ∷ l) t h =
-    pick-keeps (λ (k : List DelaySegment). AllShort k) (leb t (d .end .0)) (d ∷ l) (fromDate l t) (λ c. h) (λ c. from-short l t (h .1))
+from-short rule [] t h = tt
+from-short rule (d ∷ l) t h =
+    pick-keeps (λ (k : List DelaySegment). AllShort k) (belongs rule t d (length l)) (d ∷ l) (fromDate rule l t) (λ c. h) (λ c. from-short rule l t (h .1))
 
 heads-short : (l k : List DelaySegment) → AllShort l → AllShort k → Short (heads l k)
 unfolding AllShort
@@ -77,11 +121,12 @@ heads-short [] k h r = tt
 heads-short (a ∷ l) [] h r = tt
 heads-short (a ∷ l) (b ∷ k) h r = (h .0, r .0)
 
-pub delays-short : (l : List DelaySegment) (s e : ℕ) → AllShort l → Short (delaysOf l s e)
+pub delays-short : (rule : ℕ) (l : List DelaySegment) (s e : ℕ) → AllShort l → Short (delaysOf rule l s e)
 unfolding delaysOf
-delays-short l s e h =
-    let at = from-short l s h in
-    heads-short (fromDate l s) (fromDate (fromDate l s) e) at (from-short (fromDate l s) e at)
+delays-short rule l s e h =
+    let at = from-short rule l s h in
+    heads-short (fromDate rule l s) (fromDate rule (pick (eqb rule 2) l (fromDate rule l s)) e) at
+    (from-short rule _ e (pick-keeps (λ (k : List DelaySegment). AllShort k) (eqb rule 2) l (fromDate rule l s) (λ c. h) (λ c. at)))
 
 -- The answer to each outcome of the lookups.
 module _ (d : Delays) (a b : Delay) (e : d ≡ Of a b) where

@@ -1,84 +1,99 @@
--- The lookup of a delay as a place: the state of its loop, and what two lookups in a row find.
-use Prim.Native.Nat.{ℕ, _+_, _<_, _≤_}
+-- The lookup of a delay as a place: the state of its loop, and what two lookups find.
+use Prim.Native.Nat.{ℕ, _+_, _-_, _<_, _≤_}
+use mathlib.Core.Bool.{Bool, true, false}
 use mathlib.Core.Path.{_≡_, refl, sym, ap, _∙_}
 use mathlib.Core.List.{List, [], _∷_}
-use mathlib.Core.Logic.{⊎-elim}
 use native.Mathlib.Omega.{arith}
+use lib.Dec.{eqb}
 use lib.ListN.{length, drop, drop-of-length-le, length-drop}
-use borrow.Author.Tests.{le-leb, lt-leb}
-use Rattle.units.proofs.Numbers.{le-or-lt}
+use Rattle.units.specs.Logic.{pick}
 use Rattle.segmentation.specs.declared.DelaySegment.{DelaySegment}
 use Rattle.segmentation.specs.declared.Delays.the-variants.{Of, None}
-use Rattle.segmentation.specs.Delay.{fromDate, heads, delaysOf}
-use Rattle.segmentation.specs.Granted.{Placed}
+use Rattle.segmentation.specs.Delay.{belongs, fromDate, heads, delaysOf}
+use Rattle.segmentation.specs.Granted.{Placed, onwardOf}
 
-pub from-none : (t : ℕ) → fromDate [] t ≡ []
-unfolding fromDate
-from-none t = refl
-
-module _ (s : DelaySegment) (l : List DelaySegment) (t : ℕ) where
-  pub from-here : t ≤ s .end .0 → fromDate (s ∷ l) t ≡ s ∷ l
+module _ (rule : ℕ) where
+  pub from-none : (t : ℕ) → fromDate rule [] t ≡ []
   unfolding fromDate
-  from-here h = simp (le-leb _ _ h)
+  from-none t = refl
 
-  pub from-on : s .end .0 < t → fromDate (s ∷ l) t ≡ fromDate l t
-  unfolding fromDate
-  from-on h = simp (lt-leb _ _ h)
+  module _ (s : DelaySegment) (l : List DelaySegment) (t : ℕ) where
+    pub from-here : belongs rule t s (length l) ≡ true → fromDate rule (s ∷ l) t ≡ s ∷ l
+    unfolding fromDate
+    from-here h = simp h
 
--- the segments before the place end before the date
-pub record Looking (l : List DelaySegment) (n from t i : ℕ) : Type 0 where
+    pub from-on : belongs rule t s (length l) ≡ false → fromDate rule (s ∷ l) t ≡ fromDate rule l t
+    unfolding fromDate
+    from-on h = simp h
+
+-- the date belongs to no segment before the place
+pub record Looking (rule : ℕ) (l : List DelaySegment) (n from t i : ℕ) : Type 0 where
   pub low : i ≤ n
-  pub same : fromDate (drop from l) t ≡ fromDate (drop i l) t
+  pub same : fromDate rule (drop from l) t ≡ fromDate rule (drop i l) t
 
-module _ (l : List DelaySegment) (n from t i : ℕ) (q : Looking l n from t i) where
-  pub look-end : length l ≡ n → n ≤ i → Placed l n from t n
-  look-end e h =
+module _ (rule : ℕ) (l : List DelaySegment) (n from t i : ℕ) (q : Looking rule l n from t i) (len : length l ≡ n) where
+  pub look-end : n ≤ i → Placed rule l n from t n
+  look-end h =
       record {
         low = omega arith;
         is = drop-of-length-le l {i = n} (omega arith)
-            ∙ sym (q .same ∙ ap (λ (k : List DelaySegment). fromDate k t) (drop-of-length-le l {i = i} (omega arith)) ∙ from-none t);
+            ∙ sym (q .same ∙ ap (λ (k : List DelaySegment). fromDate rule k t) (drop-of-length-le l {i = i} (omega arith)) ∙ from-none rule t);
       }
 
   module _ (s : DelaySegment) (here : drop i l ≡ s ∷ drop (i + 1) l) where
-    pub look-here : t ≤ s .end .0 → Placed l n from t i
+    -- how many segments stand after the place
+    after : length (drop (i + 1) l) ≡ n - i - 1
+    after = simp length-drop (omega arith)
+
+    pub look-here : belongs rule t s (n - i - 1) ≡ true → Placed rule l n from t i
     look-here h =
         record {
           low = q .low;
-          is = here ∙ sym (q .same ∙ ap (λ (k : List DelaySegment). fromDate k t) here ∙ from-here s (drop (i + 1) l) t h);
+          is = here ∙ sym (q .same ∙ ap (λ (k : List DelaySegment). fromDate rule k t) here ∙ from-here rule s (drop (i + 1) l) t (ap (belongs rule t s) after ∙ h));
         }
 
-    pub look-on : i < n → s .end .0 < t → Looking l n from t (i + 1)
+    pub look-on : i < n → belongs rule t s (n - i - 1) ≡ false → Looking rule l n from t (i + 1)
     look-on lt h =
         record {
           low = omega arith;
-          same = q .same ∙ ap (λ (k : List DelaySegment). fromDate k t) here ∙ from-on s (drop (i + 1) l) t h;
+          same = q .same ∙ ap (λ (k : List DelaySegment). fromDate rule k t) here ∙ from-on rule s (drop (i + 1) l) t (ap (belongs rule t s) after ∙ h);
         }
 
--- The lookup at the start, and the one that goes on from there at the end.
 heads-none : (k : List DelaySegment) → heads k [] ≡ None
 heads-none [] = refl
 heads-none (a ∷ k) = refl
 
-module _ (l : List DelaySegment) (n s e i j : ℕ) (len : length l ≡ n) (p : Placed l n 0 s i) (q : Placed l n i e j) where
-  at-end : drop j l ≡ fromDate (fromDate l s) e
-  at-end = q .is ∙ ap (λ (k : List DelaySegment). fromDate k e) (p .is)
+drop-onward : (c : Bool) (l : List DelaySegment) (i : ℕ) → drop (pick c 0 i) l ≡ pick c l (drop i l)
+drop-onward true l i = refl
+drop-onward false l i = refl
 
-  pub places-none : n ≤ j → delaysOf l s e ≡ None
+pub onward-low : (rule i n : ℕ) → i ≤ n → onwardOf rule i ≤ n
+onward-low rule i n h = low (eqb rule 2)
+  where
+    low : (c : Bool) → pick c 0 i ≤ n
+    low true = omega arith
+    low false = h
+
+-- The lookup at the start, and the one at the end.
+module _ (rule : ℕ) (l : List DelaySegment) (n s e i : ℕ) (len : length l ≡ n) (p : Placed rule l n 0 s i) where
+  pub start-none : n ≤ i → delaysOf rule l s e ≡ None
   unfolding delaysOf
-  places-none h =
-      let gone : drop j l ≡ [] = drop-of-length-le l {i = j} (omega arith) in
-      rw (← at-end, gone) (heads-none (fromDate l s))
+  start-none h =
+      let gone : drop i l ≡ [] = drop-of-length-le l {i = i} (omega arith) in
+      rw (← p .is, gone)
 
-  -- the start's place is one where the end's is
-  pub places-both : j < n → i < n
-  places-both h =
-      ⊎-elim
-      (λ (k : n ≤ i).
-      let gone : drop j l ≡ [] = q .is ∙ ap (λ (k : List DelaySegment). fromDate k e) (drop-of-length-le l {i = i} (omega arith)) ∙ from-none e in
-      absurd (omega (arith, simp length-drop at (ap length gone))))
-      (λ (k : i < n). k)
-      (le-or-lt n i)
+  module _ (j : ℕ) (q : Placed rule l n (onwardOf rule i) e j) where
+    at-end : drop j l ≡ fromDate rule (pick (eqb rule 2) l (fromDate rule l s)) e
+    at-end =
+        q .is
+        ∙ ap (λ (k : List DelaySegment). fromDate rule k e) (drop-onward (eqb rule 2) l i ∙ ap (λ (k : List DelaySegment). pick (eqb rule 2) l k) (p .is))
 
-  pub places-of : (a b : DelaySegment) (x y : List DelaySegment) → drop i l ≡ a ∷ x → drop j l ≡ b ∷ y → delaysOf l s e ≡ Of (a .delay) (b .delay)
-  unfolding delaysOf
-  places-of a b x y h k = rw (← at-end, ← p .is, h, k)
+    pub end-none : n ≤ j → delaysOf rule l s e ≡ None
+    unfolding delaysOf
+    end-none h =
+        let gone : drop j l ≡ [] = drop-of-length-le l {i = j} (omega arith) in
+        rw (← at-end, gone) (heads-none (fromDate rule l s))
+
+    pub places-of : (a b : DelaySegment) (x y : List DelaySegment) → drop i l ≡ a ∷ x → drop j l ≡ b ∷ y → delaysOf rule l s e ≡ Of (a .delay) (b .delay)
+    unfolding delaysOf
+    places-of a b x y h k = rw (← at-end, ← p .is, h, k)

@@ -10,6 +10,7 @@ use Rattle.units.specs.declared.Interval.{Interval}
 use Rattle.units.proofs.Determined.{Determined}
 use Rattle.units.proofs.Unique.{date-is, volume-is}
 use Rattle.segmentation.specs.declared.Edition.{Edition}
+use Rattle.segmentation.specs.declared.Rule.{Rule}
 use Rattle.segmentation.specs.declared.VolumeSegment.{VolumeSegment}
 use Rattle.segmentation.specs.declared.DelaySegment.{DelaySegment}
 use Rattle.segmentation.specs.declared.Delays.{Delays}
@@ -20,6 +21,8 @@ use Rattle.segmentation.proofs.VolumeSegment.part.Reads as part-reads
 use Rattle.segmentation.proofs.by_deadline.Reads as by-deadline-reads
 use Rattle.segmentation.proofs.find_end.Reads as find-end-reads
 use Rattle.segmentation.proofs.volume_between.Reads as volume-between-reads
+use Rattle.segmentation.proofs.Rule.belongs.Reads as belongs-reads
+use Rattle.segmentation.proofs.Rule.onward.Reads as onward-reads
 use Rattle.segmentation.proofs.delay_place.Reads as delay-place-reads
 use Rattle.segmentation.proofs.find_delays.Reads as find-delays-reads
 use Rattle.segmentation.proofs.answer.Reads as answer-reads
@@ -45,21 +48,27 @@ module _ (rates : List VolumeSegment) (count : ℕ) (start : Date) where
   pub volume-between-unique : (end : Date) → Determined (volume-between-reads.Post tt (rates, (count, (start, (end, tt)))))
   volume-between-unique end r q x y f g = volume-is r q _ f g
 
+pub belongs-unique : (rule : Rule) (date : Date) (s : DelaySegment) (after : ℕ) → Determined (belongs-reads.Post tt (rule, (date, (s, (after, tt)))))
+belongs-unique rule date s after r q x y f g = f ∙ sym g
+
+pub onward-unique : (rule : Rule) (place : ℕ) → Determined (onward-reads.Post tt (rule, (place, tt)))
+onward-unique rule place r q x y f g = f ∙ sym g
+
 -- a place is told by what is left of the list there
-placed-unique : (l : List DelaySegment) (n from t r q : ℕ) → length l ≡ n → Placed l n from t r → Placed l n from t q → r ≡ q
-placed-unique l n from t r q len h k =
+placed-unique : (rule : ℕ) (l : List DelaySegment) (n from t r q : ℕ) → length l ≡ n → Placed rule l n from t r → Placed rule l n from t q → r ≡ q
+placed-unique rule l n from t r q len h k =
     let same = simp length-drop at (ap length (h .is ∙ sym (k .is))) in
     omega (arith, same, h .low, k .low)
 
-module _ (delays : List DelaySegment) (count : ℕ) where
-  pub delay-place-unique : (from : ℕ) (date : Date) → count ≤ length delays → Determined (delay-place-reads.Post tt (delays, (count, (from, (date, tt)))))
+module _ (rule : Rule) (delays : List DelaySegment) (count : ℕ) where
+  pub delay-place-unique : (from : ℕ) (date : Date) → count ≤ length delays → Determined (delay-place-reads.Post tt (rule, (delays, (count, (from, (date, tt))))))
   delay-place-unique from date le r q x y f g =
-      placed-unique (take count delays) count from (date .0) r q (simp length-take (omega arith)) f g
+      placed-unique (rule .0) (take count delays) count from (date .0) r q (simp length-take (omega arith)) f g
 
-  pub find-delays-unique : (send : Interval) → Determined (find-delays-reads.Post tt (delays, (count, (send, tt))))
+  pub find-delays-unique : (send : Interval) → Determined (find-delays-reads.Post tt (rule, (delays, (count, (send, tt)))))
   find-delays-unique send r q x y f g = f ∙ sym g
 
-  pub answer-at-unique : (send : Interval) → Determined (answer-at-reads.Post tt (delays, (count, (send, tt))))
+  pub answer-at-unique : (send : Interval) → Determined (answer-at-reads.Post tt (rule, (delays, (count, (send, tt)))))
   answer-at-unique send r q x y f g = f ∙ sym g
 
 pub answer-unique : (send : Interval) (delays : Delays) → Determined (answer-reads.Post tt (send, (delays, tt)))

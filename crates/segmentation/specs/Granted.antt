@@ -52,6 +52,10 @@ AllShort [] = Unit
 AllShort (d ∷ l) = (d .delay .0 ≤ delayMax) × (AllShort l)
 
 -- what a lookup from a place on finds, as a place (`delay_place`)
-pub record Placed (l : List DelaySegment) (count from t r : ℕ) : Type 0 where
+pub record Placed (rule : ℕ) (l : List DelaySegment) (count from t r : ℕ) : Type 0 where
   pub low : r ≤ count
-  pub is : drop r l ≡ fromDate (drop from l) t
+  pub is : drop r l ≡ fromDate rule (drop from l) t
+
+-- the place from which the end's lookup starts, where the start's found this one
+abbrev pub onwardOf : ℕ → ℕ → ℕ
+onwardOf rule i = pick (eqb rule 2) 0 i

@@ -15,8 +15,8 @@ ghost use Rattle.units.specs.Limits.{dateMax, volumeMax, segmentsMax};
 ghost use Rattle.units.specs.Logic.{pick};
 ghost use Rattle.segmentation.specs.Capacity.{rateOf, capacity};
 ghost use Rattle.segmentation.specs.End.{byDeadline, endOf};
-ghost use Rattle.segmentation.specs.Delay.{delaysOf, answerOf, answerWith};
-ghost use Rattle.segmentation.specs.Granted.{SegOk, Covers, Runs, Short, AllShort, Placed, ticksOf};
+ghost use Rattle.segmentation.specs.Delay.{belongs, delaysOf, answerOf, answerWith};
+ghost use Rattle.segmentation.specs.Granted.{SegOk, Covers, Runs, Short, AllShort, Placed, onwardOf, ticksOf};
 
 // The edition of the end rule: 1 is the source's, 2 ends a send when its final unit has left.
 #[repr(C)]
@@ -35,6 +35,42 @@ impl Edition {
             return 1;
         }
         0
+    }
+}
+
+// The rule of the delay lookup: 1 is the source's, in 2 a boundary belongs to what follows.
+#[repr(C)]
+pub struct Rule(pub u64);
+
+impl Rule {
+    pub const FIRST: u64 = 1;
+
+    pub const SECOND: u64 = 2;
+
+    // Does the date belong to the segment that has so many after it?
+    pub fn belongs(self, date: Date, s: DelaySegment, after: usize) -> bool
+        ensures { λ r. ⌜ r ≡ belongs (self .0) (date .0) s after ⌝ }
+    {
+        if self.0 != Rule::SECOND {
+            return date.0 <= s.end.0;
+        }
+        if date.0 < s.start.0 {
+            return false;
+        }
+        if after == 0 {
+            return date.0 <= s.end.0;
+        }
+        date.0 < s.end.0
+    }
+
+    // Where the end's lookup starts: by rule 1 at the place that the start's found.
+    pub fn onward(self, place: usize) -> usize
+        ensures { λ r. ⌜ r ≡ onwardOf (self .0) place ⌝ }
+    {
+        if self.0 == Rule::SECOND {
+            return 0;
+        }
+        place
     }
 }
 
@@ -190,15 +226,16 @@ pub fn volume_between(
     }
 }
 
-// The place of the first delay segment, from a place on, whose end is not before the date; the count, where there is none.
+// The place of the first delay segment, from a place on, that the date belongs to; the count, where there is none.
 pub fn delay_place(
+    rule: Rule,
     delays: [DelaySegment; DelaySegment::COUNT_MAX],
     count: usize,
     from: usize,
     date: Date,
 ) -> usize
     requires { ⌜ count ≤ segmentsMax ⌝ ∗ ⌜ from ≤ count ⌝ }
-    ensures { λ r. ⌜ Placed (take count delays) count from (date .0) r ⌝ }
+    ensures { λ r. ⌜ Placed (rule .0) (take count delays) count from (date .0) r ⌝ }
 {
     let mut i = from;
     loop {
@@ -206,26 +243,30 @@ pub fn delay_place(
             break count;
         }
         let s = delays[i];
-        if date.0 <= s.end.0 {
+        if rule.belongs(date, s, count - i - 1) {
             break i;
         }
         i += 1;
     }
 }
 
-// get_delays: the delays at both ends of a send interval; the end's lookup goes on from the start's.
+// get_delays: the delays at both ends of a send interval, by the rule.
 pub fn find_delays(
+    rule: Rule,
     delays: [DelaySegment; DelaySegment::COUNT_MAX],
     count: usize,
     send: Interval,
 ) -> Delays
     requires { ⌜ count ≤ segmentsMax ⌝ }
-    ensures { λ r. ⌜ r ≡ delaysOf (take count delays) (send .start .0) (send .end .0) ⌝ }
+    ensures { λ r. ⌜ r ≡ delaysOf (rule .0) (take count delays) (send .start .0) (send .end .0) ⌝ }
 {
     let start = send.start;
     let end = send.end;
-    let i = delay_place(delays, count, 0, start);
-    let j = delay_place(delays, count, i, end);
+    let i = delay_place(rule, delays, count, 0, start);
+    if count <= i {
+        return Delays::None;
+    }
+    let j = delay_place(rule, delays, count, rule.onward(i), end);
     if count <= j {
         return Delays::None;
     }
@@ -260,13 +301,14 @@ pub fn answer(send: Interval, delays: Delays) -> Offer
 
 // The same, with the delays looked up.
 pub fn answer_at(
+    rule: Rule,
     delays: [DelaySegment; DelaySegment::COUNT_MAX],
     count: usize,
     send: Interval,
 ) -> Offer
     requires { ⌜ count ≤ segmentsMax ⌝ ∗ ⌜ AllShort (take count delays) ⌝ ∗ ⌜ (send .start .0 ≤ dateMax) × (send .end .0 ≤ dateMax) ⌝ }
-    ensures { λ r. ⌜ r ≡ answerWith (take count delays) send ⌝ }
+    ensures { λ r. ⌜ r ≡ answerWith (delaysOf (rule .0) (take count delays)) send ⌝ }
 {
-    let found = find_delays(delays, count, send);
+    let found = find_delays(rule, delays, count, send);
     answer(send, found)
 }

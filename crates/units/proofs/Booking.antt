@@ -10,7 +10,7 @@ use Rattle.units.specs.declared.TxData.{TxData}
 use Rattle.units.specs.Logic.{unless, pick}
 use Rattle.units.specs.Answer.{refused, offers}
 use Rattle.units.specs.Granted.{refusalOf}
-use Rattle.units.proofs.Logic.{both-fst, unless-go, unless-stop}
+use Rattle.units.proofs.Logic.{both-fst, unless-go, unless-stop, unless-keeps}
 use Rattle.units.proofs.Choice.{pick-yes, pick-no}
 
 module _ (o : Offer) (d : TxData) where
@@ -63,3 +63,11 @@ pub answer-done : (ok fits : Bool) (o : Offer) → unless ok (refused 1) (unless
 answer-done true true o z = (refl, refl, refl)
 answer-done true false o z = absurd (omega (arith, z))
 answer-done false fits o z = absurd (omega (arith, z))
+
+-- over any manager: what its refusals 1 and 2, and what it answers else, have, its dry run has; with 9, so has its booking
+module _ {A : Type 0} (P : A → Type 0) (ok fits : Bool) (refuse : ℕ → A) (one : P (refuse 1)) (two : P (refuse 2)) where
+  pub dry-run-keeps : (found : A) → (ok ≡ true → fits ≡ true → P found) → P (unless ok (refuse 1) (unless fits (refuse 2) found))
+  dry-run-keeps found h = unless-keeps P ok _ _ (λ _. one) (λ o. unless-keeps P fits _ _ (λ _. two) (λ f. h o f))
+
+  pub booking-keeps : (same : Bool) (done : A) → P (refuse 9) → (ok ≡ true → P done) → P (unless ok (refuse 1) (unless fits (refuse 2) (unless same (refuse 9) done)))
+  booking-keeps same done nine h = dry-run-keeps (unless same (refuse 9) done) (λ o _. unless-keeps P same _ _ (λ _. nine) (λ _. h o))

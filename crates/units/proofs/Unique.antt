@@ -17,6 +17,7 @@ use Rattle.units.proofs.TxData.same.Reads as same-reads
 use Rattle.units.proofs.Offer.is.Reads as is-reads
 use Rattle.units.proofs.Offer.refusal.Reads as refusal-reads
 use Rattle.units.proofs.Offer.refused.Reads as refused-reads
+use Rattle.units.proofs.one_or_two.Reads as one-or-two-reads
 use Rattle.units.proofs.later.Reads as later-reads
 use Rattle.units.proofs.sooner.Reads as sooner-reads
 
@@ -36,6 +37,9 @@ module _ (a : Date) where
 
   pub sooner-unique : (b : Date) → Determined (sooner-reads.Post tt (a, (b, tt)))
   sooner-unique b r q x y f g = date-is r q _ f g
+
+pub one-or-two-unique : (n : ℕ) → Determined (one-or-two-reads.Post tt (n, tt))
+one-or-two-unique n r q x y f g = f ∙ sym g
 
 pub is-window-unique : (w : Interval) → Determined (is-window-reads.Post tt (w, tt))
 is-window-unique w r q x y f g = f ∙ sym g

@@ -1,7 +1,7 @@
 // The numbers of document 01 with their units, and the words that every manager answers in.
 ghost use mathlib.Core.Path.{_≡_};
 ghost use Prim.Native.Nat.{_+_, _≤_, min, max};
-ghost use Rattle.units.specs.Limits.{dateMax, delayMax, bundleOk, loadOk, windowOk};
+ghost use Rattle.units.specs.Limits.{dateMax, delayMax, bundleOk, loadOk, oneOrTwo, windowOk};
 ghost use Rattle.units.specs.Answer.{refused, sameDates, offers};
 ghost use Rattle.units.specs.Granted.{refusalOf};
 
@@ -190,6 +190,16 @@ impl Offer {
             },
         }
     }
+}
+
+// Is it a choice that there is? 02's editions, rules and modes are 1 and 2.
+pub fn one_or_two(choice: u64) -> bool
+    ensures { λ r. ⌜ r ≡ oneOrTwo choice ⌝ }
+{
+    if choice < 1 {
+        return false;
+    }
+    choice <= 2
 }
 
 pub fn later(a: Date, b: Date) -> Date

@@ -63,11 +63,11 @@ module _ (κs : Lfts 1) where
   volume-between-unique a r q x y f g = volume-is r q _ f g
 
   -- the delays are as many as the array has
-  pub delay-place-unique : (a : Dens κs delay-place-kinds.ps) → length (a .0 .now) ≡ 3 * segmentsMax → a .1 .0 ≤ segmentsMax → Determined (delay-place-reads.Post κs a)
+  pub delay-place-unique : (a : Dens κs delay-place-kinds.ps) → length (a .1 .0 .now) ≡ 3 * segmentsMax → a .1 .1 .0 ≤ segmentsMax → Determined (delay-place-reads.Post κs a)
   delay-place-unique a len le r q x y f g =
-      let l = delaysIn (a .0 .now) in
-      let more : a .1 .0 ≤ length l = omega (arith, threes-length delayFrom (a .0 .now) segmentsMax len) in
-      segmentation-unique.delay-place-unique l (a .1 .0) (a .1 .1 .0) (a .1 .1 .1 .0) more r q (l, a .1) (l, a .1) f g
+      let l = delaysIn (a .1 .0 .now) in
+      let more : a .1 .1 .0 ≤ length l = omega (arith, threes-length delayFrom (a .1 .0 .now) segmentsMax len) in
+      segmentation-unique.delay-place-unique (a .0) l (a .1 .1 .0) (a .1 .1 .1 .0) (a .1 .1 .1 .1 .0) more r q (a .0, (l, a .1 .1)) (a .0, (l, a .1 .1)) f g
 
   pub find-delays-unique : (a : Dens κs find-delays-kinds.ps) → Determined (find-delays-reads.Post κs a)
   find-delays-unique a r q x y f g = f ∙ sym g

@@ -4,6 +4,7 @@ use segmentation::DelaySegment;
 use segmentation::Delays;
 use segmentation::Edition;
 use segmentation::End;
+use segmentation::Rule;
 use segmentation::VolumeSegment;
 use units::Date;
 use units::Delay;
@@ -27,7 +28,7 @@ pub const SEGMENTS: usize = 3 * Interval::SEGMENTS_MAX;
 pub const LISTED: usize = 3 * Interval::LISTED_MAX;
 
 // The numbers of a record's choices, one to a choice.
-pub const CHOICES: usize = 1;
+pub const CHOICES: usize = 2;
 
 // Lent as a slice, an array tells its length; no code is left of it.
 fn told(words: &[u64]) {}
@@ -38,6 +39,7 @@ pub fn choices_at(choices: &[u64; CHOICES]) -> Choices
 {
     Choices {
         edition: Edition(choices[0]),
+        rule: Rule(choices[1]),
     }
 }
 
@@ -147,10 +149,16 @@ pub fn volume_between(rates: &[u64; SEGMENTS], count: usize, start: Date, end: D
     }
 }
 
-// The place of the first delay segment, from a place on, whose end is not before the date; the count, where there is none.
-pub fn delay_place(delays: &[u64; SEGMENTS], count: usize, from: usize, date: Date) -> usize
+// The place of the first delay segment, from a place on, that the date belongs to; the count, where there is none.
+pub fn delay_place(
+    rule: Rule,
+    delays: &[u64; SEGMENTS],
+    count: usize,
+    from: usize,
+    date: Date,
+) -> usize
     requires { ⌜ count ≤ segmentsMax ⌝ ∗ ⌜ from ≤ count ⌝ }
-    ensures { λ r. ⌜ Placed (take count (delaysIn (now (delays .entry)))) count from (date .0) r ⌝ }
+    ensures { λ r. ⌜ Placed (rule .0) (take count (delaysIn (now (delays .entry)))) count from (date .0) r ⌝ }
 {
     told(delays);
     let mut i = from;
@@ -159,23 +167,26 @@ pub fn delay_place(delays: &[u64; SEGMENTS], count: usize, from: usize, date: Da
             break count;
         }
         let s = delay_at(delays, i);
-        if date.0 <= s.end.0 {
+        if rule.belongs(date, s, count - i - 1) {
             break i;
         }
         i += 1;
     }
 }
 
-// get_delays: the delays at both ends of a send interval; the end's lookup goes on from the start's.
-pub fn find_delays(delays: &[u64; SEGMENTS], count: usize, send: Interval) -> Delays
+// get_delays: the delays at both ends of a send interval, by the rule.
+pub fn find_delays(rule: Rule, delays: &[u64; SEGMENTS], count: usize, send: Interval) -> Delays
     requires { ⌜ count ≤ segmentsMax ⌝ }
-    ensures { λ r. ⌜ r ≡ delaysOf (take count (delaysIn (now (delays .entry)))) (send .start .0) (send .end .0) ⌝ }
+    ensures { λ r. ⌜ r ≡ delaysOf (rule .0) (take count (delaysIn (now (delays .entry)))) (send .start .0) (send .end .0) ⌝ }
 {
     told(delays);
     let start = send.start;
     let end = send.end;
-    let i = delay_place(delays, count, 0, start);
-    let j = delay_place(delays, count, i, end);
+    let i = delay_place(rule, delays, count, 0, start);
+    if count <= i {
+        return Delays::None;
+    }
+    let j = delay_place(rule, delays, count, rule.onward(i), end);
     if count <= j {
         return Delays::None;
     }
@@ -187,10 +198,10 @@ pub fn find_delays(delays: &[u64; SEGMENTS], count: usize, send: Interval) -> De
 }
 
 // The answer to a dry run that found this send interval.
-pub fn answer_at(delays: &[u64; SEGMENTS], count: usize, send: Interval) -> Offer
+pub fn answer_at(rule: Rule, delays: &[u64; SEGMENTS], count: usize, send: Interval) -> Offer
     requires { ⌜ count ≤ segmentsMax ⌝ ∗ ⌜ AllShort (take count (delaysIn (now delays))) ⌝ ∗ ⌜ (send .start .0 ≤ dateMax) × (send .end .0 ≤ dateMax) ⌝ }
-    ensures { λ r. ⌜ r ≡ answerWith (take count (delaysIn (now (delays .entry)))) send ⌝ }
+    ensures { λ r. ⌜ r ≡ answerWith (delaysOf (rule .0) (take count (delaysIn (now (delays .entry))))) send ⌝ }
 {
-    let found = find_delays(delays, count, send);
+    let found = find_delays(rule, delays, count, send);
     segmentation::answer(send, found)
 }

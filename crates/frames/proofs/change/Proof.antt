@@ -39,6 +39,15 @@ enqueue-requires c κs = search needs
 dequeue-requires : tie.Need-dequeue-requires
 dequeue-requires c κs = search needs
 
+free-requires-2 : tie.Need-free-requires-2
+free-requires-2 c κs = search needs
+
+priority-requires-2 : tie.Need-priority-requires-2
+priority-requires-2 c κs = search needs
+
+polynomial-requires-2 : tie.Need-polynomial-requires-2
+polynomial-requires-2 c κs = search needs
+
 refused-requires : tie.Need-refused-requires
 refused-requires c κs = search needs
 
@@ -71,12 +80,26 @@ unfolding changeOf on
 returns-7 c = known (c .before .before) (c .before .match .keys7) (c .dequeue .ensures)
 
 returns-8 : tie.Need-returns-8
-returns-8 c =
+unfolding changeOf on
+returns-8 c = known (c .before .before) (c .before .match .keys8) (c .free2 .ensures)
+
+returns-9 : tie.Need-returns-9
+unfolding changeOf on
+returns-9 c = known (c .before .before) (c .before .match .keys9) (c .priority2 .ensures)
+
+returns-10 : tie.Need-returns-10
+unfolding changeOf on
+returns-10 c = known (c .before .before) (c .before .match .keys10) (c .polynomial2 .ensures)
+
+returns-11 : tie.Need-returns-11
+returns-11 c =
     let m = c .before in
-    let late = m .match .rest in
+    let ruled = m .match .rest in
+    let late = ruled .0 .0 .0 in
     let early = late .0 .0 .0 in
     c .refused .ensures
     ∙ change-none _ _ (m .before .byte-at .ensures) (early .0 .0 .0 .1) (early .0 .0 .1) (early .0 .1) (early .1) (late .0 .0 .1) (late .0 .1) (late .1)
+    (ruled .0 .0 .1) (ruled .0 .1) (ruled .1)
 
 pub change-spec : {M : Type 1} → statement M
 change-spec =
@@ -90,6 +113,9 @@ change-spec =
     book-requires
     enqueue-requires
     dequeue-requires
+    free-requires-2
+    priority-requires-2
+    polynomial-requires-2
     refused-requires
     returns
     returns-2
@@ -98,4 +124,7 @@ change-spec =
     returns-5
     returns-6
     returns-7
-    returns-8)
+    returns-8
+    returns-9
+    returns-10
+    returns-11)

@@ -26,8 +26,9 @@ sub-turns c = search needs
 loop-less : tie.Need-loop-less Inv-loop μ-loop
 loop-less c = search needs
 
+-- written out: `search` enters no more than 128 records, and what is held has more
 loop-again : tie.Need-loop-again Inv-loop μ-loop
-loop-again c = search needs
+loop-again c = ((search needs, search needs, search needs), c .before .before .before .before .before .before .before .turn .ensures)
 
 same-length : tie.Need-same-length Inv-loop μ-loop
 same-length c = search needs

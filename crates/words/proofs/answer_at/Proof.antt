@@ -13,7 +13,7 @@ find-delays-requires c κs = search needs
 answer-requires : tie.Need-answer-requires
 answer-requires c κs =
     let p = c .before .pre in
-    (p .1 .1, rw (c .find-delays .ensures) (delays-short _ _ _ (p .1 .0)))
+    (p .1 .1, rw (c .find-delays .ensures) (delays-short _ _ _ _ (p .1 .0)))
 
 returns : tie.Need-returns
 returns c =

@@ -1,7 +1,7 @@
 -- `words::delay_place` meets its contract. The invariant: the lookup from the loop's place on finds what is asked.
 use borrow.Author.Needs.{needs}
 use Prim.Native.Nat.{_+_, _-_, _*_}
-use mathlib.Core.Path.{_≡_, refl}
+use mathlib.Core.Path.{_≡_, refl, sym, _∙_}
 use mathlib.Core.List.{List, _∷_}
 use native.Mathlib.Omega.{arith}
 use lib.ListN.{length, take, drop}
@@ -14,16 +14,19 @@ use Rattle.words.proofs.delay_place.Statement.{statement}
 use Rattle.words.proofs.delay_place.Tie as tie
 
 abbrev Inv-loop : tie.InvT-loop
-Inv-loop delays count from date i₀ i = Looking (take count (delaysIn delays)) count from (date .0) i
+Inv-loop rule delays count from date i₀ i = Looking (rule .0) (take count (delaysIn delays)) count from (date .0) i
 
 abbrev μ-loop : tie.MeasureT-loop
-μ-loop delays count from date i₀ i = count - i
+μ-loop rule delays count from date i₀ i = count - i
 
 size-of : (c : tie.After-told-arg Inv-loop μ-loop) → length (c .before .args .delays .now) ≡ 3 * segmentsMax
 size-of c = search needs
 
 abbrev list : tie.Start Inv-loop μ-loop → List DelaySegment
 list c = take (c .args .count) (delaysIn (c .args .delays .now))
+
+count-of : (c : tie.After-told-arg Inv-loop μ-loop) → length (list (c .before)) ≡ c .before .args .count
+count-of c = first-count delayFrom _ segmentsMax _ (size-of c) (c .before .pre .0)
 
 -- the segment at the loop's place is the one read
 here : (c : tie.After-delay-at Inv-loop μ-loop)
@@ -42,6 +45,15 @@ loop-holds c = record { low = c .before .before .pre .1; same = refl }
 delay-at-requires : tie.Need-delay-at-requires Inv-loop μ-loop
 delay-at-requires c κs = search needs
 
+sub-belongs : tie.Need-sub-belongs Inv-loop μ-loop
+sub-belongs c = search needs
+
+sub-belongs-2 : tie.Need-sub-belongs-2 Inv-loop μ-loop
+sub-belongs-2 c = search needs
+
+belongs-requires : tie.Need-belongs-requires Inv-loop μ-loop
+belongs-requires c κs = search needs
+
 add-i : tie.Need-add-i Inv-loop μ-loop
 add-i c = search needs
 
@@ -50,18 +62,18 @@ loop-less c = search needs
 
 loop-again : tie.Need-loop-again Inv-loop μ-loop
 loop-again c =
-    let e = c .before .before .before in
-    look-on _ _ _ _ _ (e .before .before .loop .inv) (e .delay-at .result) (here e) (e .before .if1 .left) (omega (arith, c .if2 .left))
+    let e = c .before .before in
+    let told = e .before .before .before .before in
+    look-on _ _ _ _ _ _ (e .before .before .loop .inv) (count-of told) (e .delay-at .result) (here e) (e .before .if1 .left) (sym (c .before .belongs .ensures) ∙ c .if2 .left)
 
 returns : tie.Need-returns Inv-loop μ-loop
-returns c =
-    let told = c .before .before .before in
-    look-end _ _ _ _ _ (c .before .loop .inv) (first-count delayFrom _ segmentsMax _ (size-of told) (told .before .pre .0)) (c .if1 .taken)
+returns c = look-end _ _ _ _ _ _ (c .before .loop .inv) (count-of (c .before .before .before)) (c .if1 .taken)
 
 returns-2 : tie.Need-returns-2 Inv-loop μ-loop
 returns-2 c =
-    let e = c .before .before .before in
-    look-here _ _ _ _ _ (e .before .before .loop .inv) (e .delay-at .result) (here e) (omega (arith, c .if2 .taken))
+    let e = c .before .before in
+    let told = e .before .before .before .before in
+    look-here _ _ _ _ _ _ (e .before .before .loop .inv) (count-of told) (e .delay-at .result) (here e) (sym (c .before .belongs .ensures) ∙ c .if2 .taken)
 
 pub delay-place-spec : {M : Type 1} → statement M
 delay-place-spec =
@@ -72,6 +84,9 @@ delay-place-spec =
     told-requires
     loop-holds
     delay-at-requires
+    sub-belongs
+    sub-belongs-2
+    belongs-requires
     add-i
     loop-less
     loop-again

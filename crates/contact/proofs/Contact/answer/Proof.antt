@@ -6,7 +6,7 @@ use Rattle.contact.proofs.Contact.answer.Tie as tie
 
 answer-at-requires : tie.Need-answer-at-requires
 answer-at-requires c κs =
-    let p = c .before .pre in
+    let p = c .before .before .before .pre in
     let q = sound _ (p .0) in
     (q .delays .1, (all-short _ (q .brief), p .1))
 

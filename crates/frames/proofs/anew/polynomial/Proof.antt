@@ -22,11 +22,11 @@ open-requires c κs = search needs
 returns : tie.Need-returns
 unfolding polynomialOpened
 returns c =
-    let f = c .before .before .before .before .before .read .result in
+    let f = c .before .before .before .before .before .before .before .read .result in
     let is =
     c .«open» .ensures
-    ∙ ap (λ (h : Choices). openOf h (f .window) (f .polynome) (f .delays) (f .«delay_count»)) (c .before .ported .ensures)
-    ∙ ap polynomialOpened (c .before .before .before .before .before .read .ensures) in
+    ∙ ap (λ (h : Choices). openOf (record { mode = h .mode; rule = f .rule }) (f .window) (f .polynome) (f .delays) (f .«delay_count»)) (c .before .before .ported .ensures)
+    ∙ ap polynomialOpened (c .before .before .before .before .before .before .before .read .ensures) in
     (is, λ z. ap (λ (o : Opened). recordOk (o .manager)) is ∙ polynomial-opened _ (sym (ap (λ (o : Opened). o .number) is) ∙ z))
 
 pub polynomial-spec : {M : Type 1} → statement M

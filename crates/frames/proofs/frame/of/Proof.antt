@@ -94,6 +94,24 @@ has-requires-6 c κs = search needs
 when-requires-10 : tie.Need-when-requires-10
 when-requires-10 c κs = search needs
 
+fits-requires-5 : tie.Need-fits-requires-5
+fits-requires-5 c κs = search needs
+
+when-requires-11 : tie.Need-when-requires-11
+when-requires-11 c κs = search needs
+
+fits-requires-6 : tie.Need-fits-requires-6
+fits-requires-6 c κs = search needs
+
+when-requires-12 : tie.Need-when-requires-12
+when-requires-12 c κs = search needs
+
+fits-requires-7 : tie.Need-fits-requires-7
+fits-requires-7 c κs = search needs
+
+when-requires-13 : tie.Need-when-requires-13
+when-requires-13 c κs = search needs
+
 returns-2 : tie.Need-returns-2
 unfolding kindFrame on
 returns-2 c =
@@ -155,11 +173,30 @@ returns-11 c =
     (c .when10 .ensures ∙ ap (λ (t : Bool). whenOf t Room) (c .before .has6 .ensures))
 
 returns-12 : tie.Need-returns-12
+unfolding kindFrame on
 returns-12 c =
-    let late = c .match .rest .0 in
+    known (c .before .before .before) (c .before .before .match .keys11)
+    (c .when11 .ensures ∙ ap (λ (t : Bool). whenOf t Free) (c .before .fits6 .ensures))
+
+returns-13 : tie.Need-returns-13
+unfolding kindFrame on
+returns-13 c =
+    known (c .before .before .before) (c .before .before .match .keys12)
+    (c .when12 .ensures ∙ ap (λ (t : Bool). whenOf t Priority) (c .before .fits7 .ensures))
+
+returns-14 : tie.Need-returns-14
+unfolding kindFrame on
+returns-14 c =
+    known (c .before .before .before) (c .before .before .match .keys13)
+    (c .when13 .ensures ∙ ap (λ (t : Bool). whenOf t Polynomial) (c .before .fits8 .ensures))
+
+returns-15 : tie.Need-returns-15
+returns-15 c =
+    let ruled = c .match .rest in
+    let late = ruled .0 .0 .0 .0 in
     let early = late .0 .0 .0 .0 .0 in
     digits (c .before)
-    (frame-none _ (c .before .byte-at .ensures) (early .0 .0 .0 .1) (early .0 .0 .1) (early .0 .1) (early .1) (late .0 .0 .0 .0 .1) (late .0 .0 .0 .1) (late .0 .0 .1) (late .0 .1) (late .1) (c .match .rest .1))
+    (frame-none _ (c .before .byte-at .ensures) (early .0 .0 .0 .1) (early .0 .0 .1) (early .0 .1) (early .1) (late .0 .0 .0 .0 .1) (late .0 .0 .0 .1) (late .0 .0 .1) (late .0 .1) (late .1) (ruled .0 .0 .0 .1) (ruled .0 .0 .1) (ruled .0 .1) (ruled .1))
 
 pub of-spec : {M : Type 1} → statement M
 of-spec =
@@ -188,6 +225,12 @@ of-spec =
     when-requires-9
     has-requires-6
     when-requires-10
+    fits-requires-5
+    when-requires-11
+    fits-requires-6
+    when-requires-12
+    fits-requires-7
+    when-requires-13
     returns-2
     returns-3
     returns-4
@@ -198,4 +241,7 @@ of-spec =
     returns-9
     returns-10
     returns-11
-    returns-12)
+    returns-12
+    returns-13
+    returns-14
+    returns-15)

@@ -83,7 +83,7 @@ returns-3 : tie.Need-returns-3
 returns-3 c =
     let p = c .before .before in
     let e = begin (p .before .before) in
-    rw (c .answer-at .ensures) (sym (chosen-as (lent (e .before .before)) _ _ (bundle-holds e) (found p)))
+    rw (rw (p .before .before .before .before .choices-at .ensures) at (c .answer-at .ensures)) (sym (chosen-as (lent (e .before .before)) _ _ (bundle-holds e) (found p)))
 
 pub chosen-spec : {M : Type 1} → statement M
 chosen-spec =

@@ -83,7 +83,7 @@ returns-3 : tie.Need-returns-3
 returns-3 c =
     let p = c .before .before in
     let e = begin (p .before .before) in
-    c .answer-at .ensures ∙ sym (dry-found _ _ _ (e .before .before .pre) (bundle-holds e) (found p))
+    (rw (p .before .before .before .before .choices-at .ensures) at (c .answer-at .ensures)) ∙ sym (dry-found _ _ _ (e .before .before .pre) (bundle-holds e) (found p))
 
 pub hk-free-dry-run-kept-spec : {M : Type 1} → statement M
 hk-free-dry-run-kept-spec =

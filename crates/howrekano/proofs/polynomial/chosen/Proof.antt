@@ -5,12 +5,10 @@ use mathlib.Core.Path.{_≡_, refl, sym, ap, _∙_}
 use Rattle.units.specs.Limits.{bundleOk}
 use Rattle.units.proofs.Choice.{told-yes, told-no}
 use Rattle.free_list.specs.declared.Found.the-variants.{At}
-use Rattle.free_list.proofs.ByChoice.{chosen-stop, chosen-found}
 use Rattle.poly_seg.specs.declared.Choices.{Choices}
 use Rattle.poly_seg.specs.declared.PolySeg.{PolySeg}
-use Rattle.poly_seg.specs.Record.{delayList}
 use Rattle.poly_seg.specs.DryRun.{foundOf}
-use Rattle.poly_seg.specs.Granted.{chosenOf}
+use Rattle.poly_seg.proofs.Calls.{chosen-bundle, chosen-as}
 use Rattle.howrekano.specs.Words.{polySegIn}
 use Rattle.howrekano.proofs.PolynomialDryRun.{terms-asks, size-asks, search-asks, search-is, answer-asks}
 use Rattle.howrekano.proofs.polynomial.chosen.Statement.{statement}
@@ -60,13 +58,8 @@ refused-requires : tie.Need-refused-requires
 refused-requires c κs = search needs
 
 returns : tie.Need-returns
-unfolding chosenOf
 returns c =
-    let t = c .before .before in
-    let a = t .before .args in
-    let r = lent (t .before) in
-    c .refused .ensures
-    ∙ sym (chosen-stop _ (delayList r) (foundOf r (a .at .0) (a .bundle .size .0)) (told-no (t .ok-at .ensures) (c .before .if1 .taken)))
+    c .refused .ensures ∙ sym (chosen-bundle _ _ _ (told-no (c .before .before .ok-at .ensures) (c .before .if1 .taken)))
 
 choices-at-requires : tie.Need-choices-at-requires
 choices-at-requires c κs = search needs
@@ -98,11 +91,11 @@ refused-requires-2 : tie.Need-refused-requires-2
 refused-requires-2 c κs = search needs
 
 returns-2 : tie.Need-returns-2
-unfolding chosenOf
 returns-2 c =
     let f = c .before .before .before in
+    let e = begin (f .before) in
     c .refused2 .ensures
-    ∙ sym (chosen-found _ _ _ (bundle-holds (begin (f .before))) (sym (found-is f) ∙ c .before .enum-told .given .1))
+    ∙ sym (chosen-as (lent (start e)) _ _ (bundle-holds e) (sym (found-is f) ∙ c .before .enum-told .given .1))
 
 answer-at-requires : tie.Need-answer-at-requires
 answer-at-requires c κs =
@@ -111,10 +104,10 @@ answer-at-requires c κs =
     answer-asks _ _ _ (e .before .before .pre) (bundle-holds e) _ _ (found p)
 
 returns-3 : tie.Need-returns-3
-unfolding chosenOf
 returns-3 c =
     let p = c .before .before in
-    rw (c .answer-at .ensures) (sym (chosen-found _ _ _ (bundle-holds (begin (p .before .before .before))) (found p)))
+    let w = p .before .before .before in
+    rw (rw (w .before .before .before .choices-at .ensures) at (c .answer-at .ensures)) (sym (chosen-as (lent (start (begin w))) _ _ (bundle-holds (begin w)) (found p)))
 
 pub chosen-spec : {M : Type 1} → statement M
 chosen-spec =

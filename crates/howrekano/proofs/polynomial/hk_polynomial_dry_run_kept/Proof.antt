@@ -115,7 +115,7 @@ returns-3 : tie.Need-returns-3
 returns-3 c =
     let p = c .before .before in
     let e = begin (p .before .before .before) in
-    c .answer-at .ensures ∙ sym (dry-found _ _ _ (keeps (start e)) (bundle-holds e) (found p))
+    (rw (p .before .before .before .before .before .before .choices-at .ensures) at (c .answer-at .ensures)) ∙ sym (dry-found _ _ _ (keeps (start e)) (bundle-holds e) (found p))
 
 pub hk-polynomial-dry-run-kept-spec : {M : Type 1} → statement M
 hk-polynomial-dry-run-kept-spec =

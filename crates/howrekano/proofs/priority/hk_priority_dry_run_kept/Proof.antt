@@ -91,7 +91,7 @@ returns-3 : tie.Need-returns-3
 returns-3 c =
     let p = c .before .before in
     let e = begin (p .before .before) in
-    c .answer-at .ensures ∙ sym (dry-at _ _ _ (e .before .before .pre) (bundle-holds e) _ (found p))
+    (rw (p .before .before .before .before .choices-at .ensures) at (c .answer-at .ensures)) ∙ sym (dry-at _ _ _ (e .before .before .pre) (bundle-holds e) _ (found p))
 
 pub hk-priority-dry-run-kept-spec : {M : Type 1} → statement M
 hk-priority-dry-run-kept-spec =

@@ -25,13 +25,22 @@ add-delays-at c = search needs
 delays-at-requires : tie.Need-delays-at-requires
 delays-at-requires c κs = search needs
 
+end-requires : tie.Need-end-requires
+end-requires c κs = search needs
+
+at-requires : tie.Need-at-requires
+at-requires c κs = search needs
+
 returns : tie.Need-returns
 unfolding openingOf
 returns c =
-    let b = c .before in
+    let a = c .before .before in
+    let b = a .before in
     let d = b .before .before in
     rw (
-      c .delays-at .ensures,
+      c .at .ensures,
+      c .before .end .ensures .0,
+      a .delays-at .ensures,
       b .rates-at .ensures,
       b .before .count-at2 .ensures .0,
       d .count-at .ensures .0,
@@ -49,4 +58,6 @@ read-spec =
     mul-delays-at
     add-delays-at
     delays-at-requires
+    end-requires
+    at-requires
     returns)

@@ -16,13 +16,20 @@ count-at-requires c κs = search needs
 delays-at-requires : tie.Need-delays-at-requires
 delays-at-requires c κs = search needs
 
+end-requires : tie.Need-end-requires
+end-requires c κs = search needs
+
+at-requires : tie.Need-at-requires
+at-requires c κs = search needs
+
 returns : tie.Need-returns
 unfolding polynomialOf
 returns c =
-    let b = c .before in
-    rw (c .delays-at .ensures, b .count-at .ensures .0, b .before .polynome .ensures, b .before .before .interval-at .ensures)
+    let a = c .before .before in
+    let b = a .before in
+    rw (c .at .ensures, c .before .end .ensures .0, a .delays-at .ensures, b .count-at .ensures .0, b .before .polynome .ensures, b .before .before .interval-at .ensures)
 
 pub read-spec : {M : Type 1} → statement M
 read-spec =
     tie.close
-    (tie.spec interval-at-requires polynome-requires count-at-requires delays-at-requires returns)
+    (tie.spec interval-at-requires polynome-requires count-at-requires delays-at-requires end-requires at-requires returns)

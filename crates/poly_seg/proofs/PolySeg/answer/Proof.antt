@@ -5,7 +5,7 @@ use Rattle.poly_seg.proofs.PolySeg.answer.Tie as tie
 
 answer-at-requires : tie.Need-answer-at-requires
 answer-at-requires c κs =
-    let p = c .before .pre in
+    let p = c .before .before .before .pre in
     let q = facts _ (p .0) in
     (q .places, (q .short, p .1))
 

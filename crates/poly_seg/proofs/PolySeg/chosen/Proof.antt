@@ -6,11 +6,9 @@ use Rattle.units.specs.Limits.{bundleOk}
 use Rattle.units.proofs.Choice.{told-yes, told-no}
 use Rattle.units.proofs.Loads.{asked-load, load}
 use Rattle.free_list.specs.declared.Found.the-variants.{At}
-use Rattle.free_list.proofs.ByChoice.{chosen-stop, chosen-found}
-use Rattle.poly_seg.specs.Record.{delayList}
 use Rattle.poly_seg.specs.DryRun.{foundOf}
-use Rattle.poly_seg.specs.Granted.{chosenOf}
 use Rattle.poly_seg.proofs.Facts.{facts, found-dates}
+use Rattle.poly_seg.proofs.Calls.{chosen-bundle, chosen-as}
 use Rattle.poly_seg.proofs.PolySeg.chosen.Statement.{statement}
 use Rattle.poly_seg.proofs.PolySeg.chosen.Tie as tie
 
@@ -31,12 +29,8 @@ refused-requires : tie.Need-refused-requires
 refused-requires c κs = search needs
 
 returns : tie.Need-returns
-unfolding chosenOf
 returns c =
-    let t = c .before .before in
-    let a = t .before .args in
-    c .refused .ensures
-    ∙ sym (chosen-stop _ (delayList (a .self)) (foundOf (a .self) (a .at .0) (a .bundle .size .0)) (told-no (t .ok-at .ensures) (c .before .if1 .taken)))
+    c .refused .ensures ∙ sym (chosen-bundle _ _ _ (told-no (c .before .before .ok-at .ensures) (c .before .if1 .taken)))
 
 search-requires : tie.Need-search-requires
 search-requires c κs = (c .before .before .before .pre, load _ (asked-load _ _ (bundle-holds (c .before))) .size)
@@ -51,11 +45,11 @@ refused-requires-2 : tie.Need-refused-requires-2
 refused-requires-2 c κs = search needs
 
 returns-2 : tie.Need-returns-2
-unfolding chosenOf
 returns-2 c =
     let f = c .before .before .before in
+    let e = f .before .before in
     c .refused2 .ensures
-    ∙ sym (chosen-found _ _ _ (bundle-holds (f .before .before)) (sym (f .search .ensures) ∙ c .before .enum-told .given .1))
+    ∙ sym (chosen-as (e .before .before .args .self) _ _ (bundle-holds e) (sym (f .search .ensures) ∙ c .before .enum-told .given .1))
 
 answer-requires : tie.Need-answer-requires
 answer-requires c κs =
@@ -65,10 +59,10 @@ answer-requires c κs =
     (ok, found-dates _ (facts _ ok) _ _ (load _ (asked-load _ _ (bundle-holds one)) .some) _ _ (found p))
 
 returns-3 : tie.Need-returns-3
-unfolding chosenOf
 returns-3 c =
     let p = c .before .before in
-    rw (c .answer .ensures) (sym (chosen-found _ _ _ (bundle-holds (p .before .before .before .before)) (found p)))
+    let e = p .before .before .before .before in
+    rw (c .answer .ensures) (sym (chosen-as (e .before .before .args .self) _ _ (bundle-holds e) (found p)))
 
 pub chosen-spec : {M : Type 1} → statement M
 chosen-spec =

@@ -1,4 +1,4 @@
--- No call of the priority manager answers 8: on a record that keeps its rules both delay lookups find a segment.
+-- No call of the priority manager answers 8, by either delay rule: on a record that keeps its rules both lookups find a segment.
 use Prim.Native.Nat.{ℕ}
 use mathlib.Core.Bool.{true}
 use mathlib.Core.Path.{_≡_, refl}
@@ -12,48 +12,46 @@ use Rattle.units.specs.declared.TxData.{TxData}
 use Rattle.units.specs.declared.Bundle.{Bundle}
 use Rattle.units.specs.declared.Offer.{Offer}
 use Rattle.units.specs.Limits.{listedMax, bundleOk}
-use Rattle.units.specs.Answer.{offers}
+use Rattle.units.specs.Answer.{refused, offers}
 use Rattle.units.proofs.Logic.{unless-keeps}
+use Rattle.units.proofs.Booking.{dry-run-keeps, booking-keeps}
 use Rattle.units.proofs.Loads.{asked-load, load}
 use Rattle.segmentation.specs.declared.RateSegment.{RateSegment}
 use Rattle.segmentation.specs.declared.DelaySegment.{DelaySegment}
 use Rattle.contact.specs.declared.Choices.{Choices}
 use Rattle.contact.specs.declared.Opened.{Opened as ContactOpened}
 use Rattle.contact.specs.Open.{openContact}
-use Rattle.contact.proofs.Refusals.{opening-keeps}
+use Rattle.contact.proofs.Refusals.{opening-never-8}
 use Rattle.bookings.specs.declared.Run.{Run}
 use Rattle.bookings.specs.declared.Run.the-variants.{Idle, Going, Sent}
 use Rattle.bookings.specs.declared.Set.{Set}
 use Rattle.bookings.specs.Listed.{listed}
 use Rattle.bookings.specs.Cut.{setOf, setBookings}
 use Rattle.pseg.specs.declared.PrioritySeg.{PrioritySeg}
 use Rattle.pseg.specs.declared.Opened.{Opened}
 use Rattle.pseg.specs.declared.Booked.{Booked}
 use Rattle.pseg.specs.declared.Listing.{Listing}
 use Rattle.pseg.specs.Record.{recordOk}
 use Rattle.pseg.specs.Open.{openedOf, openOf}
 use Rattle.pseg.specs.DryRun.{runOf, answerTo, dryRunOf}
-use Rattle.pseg.specs.Book.{bookedAt, bookOf}
+use Rattle.pseg.specs.Book.{refusedBooking, bookedAt, bookOf}
 use Rattle.pseg.specs.List.{listOf}
-use Rattle.earliest.proofs.Found.{sent}
+use Rattle.pseg.proofs.Facts.{facts, found-answers}
 
 abbrev Not8 : ℕ → Type 0
 Not8 n = n ≡ 8 → ⊥
 
 module _ (r : PrioritySeg) (at : Date) (b : Bundle) where
   answer-never-8 : recordOk r ≡ true → bundleOk at b ≡ true → (x : Run) → runOf r (at .0) b ≡ x → Not8 (answerTo r x .number)
-  answer-never-8 ok fits (Sent send) e h = omega (arith, h, sent r b ok (load b (asked-load at b fits) .some) at send e .0)
+  answer-never-8 ok fits (Sent send) e h = omega (arith, h, found-answers r (facts r ok) (at .0) b send e (load b (asked-load at b fits) .some) .number)
   answer-never-8 ok fits (Going send) e h = omega arith
   answer-never-8 ok fits Idle e h = omega arith
 
   pub dry-never-8 : Not8 (dryRunOf r at b .number)
   unfolding dryRunOf
   dry-never-8 =
-      unless-keeps (λ (o : Offer). Not8 (o .number)) (recordOk r) _ _
-      (λ f h. omega arith)
-      (λ ok. unless-keeps (λ (o : Offer). Not8 (o .number)) (bundleOk at b) _ _
-      (λ f h. omega arith)
-      (λ fits. answer-never-8 ok fits (runOf r (at .0) b) refl))
+      dry-run-keeps (λ (o : Offer). Not8 (o .number)) (recordOk r) (bundleOk at b) refused (λ h. omega arith) (λ h. omega arith) _
+      (λ ok fits. answer-never-8 ok fits (runOf r (at .0) b) refl)
 
   set-never-8 : (s e w : ℕ) → Not8 (setBookings (r .bookings) s e w .number)
   unfolding setBookings
@@ -67,13 +65,9 @@ module _ (r : PrioritySeg) (at : Date) (b : Bundle) where
   pub book-never-8 : (d : TxData) → Not8 (bookOf r at b d .number)
   unfolding bookOf
   book-never-8 d =
-      unless-keeps (λ (x : Booked). Not8 (x .number)) (recordOk r) _ _
-      (λ f h. omega arith)
-      (λ ok. unless-keeps (λ (x : Booked). Not8 (x .number)) (bundleOk at b) _ _
-      (λ f h. omega arith)
-      (λ fits. unless-keeps (λ (x : Booked). Not8 (x .number)) (offers (dryRunOf r at b) d) _ _
-      (λ f h. omega arith)
-      (λ same. booked-never-8 (runOf r (at .0) b) (b .priority .0))))
+      booking-keeps (λ (x : Booked). Not8 (x .number)) (recordOk r) (bundleOk at b) (λ (n : ℕ). refusedBooking n r) (λ h. omega arith) (λ h. omega arith)
+      (offers (dryRunOf r at b) d) (bookedAt r (runOf r (at .0) b) (b .priority .0)) (λ h. omega arith)
+      (λ ok. booked-never-8 (runOf r (at .0) b) (b .priority .0))
 
 pub list-never-8 : (r : PrioritySeg) → Not8 (listOf r .number)
 unfolding listOf
@@ -85,5 +79,4 @@ opened-never-8 w o n = unless-keeps (λ (x : Opened). Not8 (x .number)) (eqb (o 
 pub open-never-8 : (h : Choices) (w : Interval) (rates : List RateSegment) (m : ℕ) (delays : List DelaySegment) (k : ℕ) → Not8 (openOf h w rates m delays k .number)
 unfolding openOf
 open-never-8 h w rates m delays k =
-    opened-never-8 w (openContact h w rates m delays k)
-    (opening-keeps h w rates m delays k (λ (o : ContactOpened). Not8 (o .number)) (λ z. omega arith) (λ z. omega arith) (λ z. omega arith) (λ z. omega arith) (λ z. omega arith) (λ p z. omega arith))
+    opened-never-8 w (openContact h w rates m delays k) (opening-never-8 h w rates m delays k)

@@ -1,15 +1,17 @@
-// What the free-volume and the priority record share, with another edition.
+// What the free-volume and the priority record share, with other choices.
 use contact::Choices;
 use contact::Contact;
 use segmentation::Edition;
+use segmentation::Rule;
 
-pub fn named(c: Contact, edition: u64) -> Contact {
+pub fn named(c: Contact, edition: u64, rule: u64) -> Contact {
     let window = c.window;
     let rates = c.rates;
     let delays = c.delays;
     Contact {
         choices: Choices {
             edition: Edition(edition),
+            rule: Rule(rule),
         },
         window: window,
         rates: rates,
