@@ -1,5 +1,6 @@
-//! Lines and what they say: the layouts of document 01's trace program and of
-//! frame 15 (document 02, R-1), and nothing about what a frame means.
+//! Lines and what they say: the layouts of document 01's trace program, of frame
+//! 15 (document 02, R-1) and of frames 21 to 23, and nothing about what a
+//! frame means.
 
 use crate::refusal::{DONE, Refusal};
 
@@ -23,6 +24,9 @@ pub mod kind {
     pub const ENQUEUE: u8 = 0x13;
     pub const DEQUEUE: u8 = 0x14;
     pub const ROOM: u8 = 0x15;
+    pub const RULED_FREE: u8 = 0x21;
+    pub const RULED_PRIORITY: u8 = 0x22;
+    pub const RULED_POLY: u8 = 0x23;
 }
 
 /// The bits of a queue opening's flags.
@@ -72,6 +76,15 @@ pub struct QueueOpening {
     pub budgets: [i64; BUDGETS],
 }
 
+/// An opening of a manager that looks up delays: frames 21 to 23 have a rule byte
+/// beside it.
+#[derive(Clone, Debug, PartialEq, Eq)]
+pub enum Ruled {
+    Free(RatedOpening),
+    Priority(RatedOpening),
+    Poly(PolyOpening),
+}
+
 /// What is carried: a size and a priority, as stated.
 #[derive(Clone, Copy, Debug, PartialEq, Eq)]
 pub struct Load {
@@ -96,6 +109,8 @@ pub enum Frame {
     OpenPriority(RatedOpening),
     OpenPoly(PolyOpening),
     OpenQueue(QueueOpening),
+    /// With the rule byte as stated, any of its 256 values.
+    OpenRuled(Ruled, u8),
     DryRun(Request),
     Book(Request, Dates),
     List,
@@ -223,8 +238,20 @@ fn read_frame(reader: &mut Reader) -> Option<Frame> {
         kind::ENQUEUE => Some(Frame::Enqueue(reader.load()?)),
         kind::DEQUEUE => Some(Frame::Dequeue(reader.load()?)),
         kind::ROOM => Some(Frame::Room),
+        kind::RULED_FREE => read_ruled(reader, |it| Some(Ruled::Free(read_rated(it)?))),
+        kind::RULED_PRIORITY => read_ruled(reader, |it| Some(Ruled::Priority(read_rated(it)?))),
+        kind::RULED_POLY => read_ruled(reader, |it| Some(Ruled::Poly(read_poly(it)?))),
         _ => None,
     }
+}
+
+/// "frames 21, 22 and 23 are 01, 02 and 03 with a rule byte added last".
+fn read_ruled(
+    reader: &mut Reader,
+    opening: impl FnOnce(&mut Reader) -> Option<Ruled>,
+) -> Option<Frame> {
+    let opening = opening(reader)?;
+    Some(Frame::OpenRuled(opening, reader.byte()?))
 }
 
 fn read_rated(reader: &mut Reader) -> Option<RatedOpening> {
@@ -353,6 +380,14 @@ impl Writer<'_> {
         self.spans(&opening.delays);
     }
 
+    fn ruled(&mut self, opening: &Ruled, rule: u8) {
+        match opening {
+            Ruled::Free(opening) | Ruled::Priority(opening) => self.rated(opening),
+            Ruled::Poly(opening) => self.poly(opening),
+        }
+        self.byte(rule);
+    }
+
     fn queue(&mut self, opening: &QueueOpening) {
         self.byte(opening.flags);
         self.byte(opening.classes);
@@ -362,13 +397,41 @@ impl Writer<'_> {
     }
 }
 
+impl Ruled {
+    /// As frame 01, 02 or 03.
+    pub fn plain(self) -> Frame {
+        match self {
+            Ruled::Free(opening) => Frame::OpenFree(opening),
+            Ruled::Priority(opening) => Frame::OpenPriority(opening),
+            Ruled::Poly(opening) => Frame::OpenPoly(opening),
+        }
+    }
+}
+
 impl Frame {
+    /// Frames 01 to 03 as 21 to 23, with this rule byte; any other as it is.
+    pub fn ruled(self, rule: u8) -> Frame {
+        match self {
+            Frame::OpenFree(opening) => Frame::OpenRuled(Ruled::Free(opening), rule),
+            Frame::OpenPriority(opening) => Frame::OpenRuled(Ruled::Priority(opening), rule),
+            Frame::OpenPoly(opening) => Frame::OpenRuled(Ruled::Poly(opening), rule),
+            other => other,
+        }
+    }
+
+    pub fn is_opening(&self) -> bool {
+        self.kind() < kind::DRY_RUN || matches!(self, Frame::OpenRuled(..))
+    }
+
     pub fn kind(&self) -> u8 {
         match self {
             Frame::OpenFree(_) => kind::OPEN_FREE,
             Frame::OpenPriority(_) => kind::OPEN_PRIORITY,
             Frame::OpenPoly(_) => kind::OPEN_POLY,
             Frame::OpenQueue(_) => kind::OPEN_QUEUE,
+            Frame::OpenRuled(Ruled::Free(_), _) => kind::RULED_FREE,
+            Frame::OpenRuled(Ruled::Priority(_), _) => kind::RULED_PRIORITY,
+            Frame::OpenRuled(Ruled::Poly(_), _) => kind::RULED_POLY,
             Frame::DryRun(_) => kind::DRY_RUN,
             Frame::Book(..) => kind::BOOK,
             Frame::List => kind::LIST,
@@ -386,6 +449,7 @@ impl Frame {
             Frame::OpenFree(opening) | Frame::OpenPriority(opening) => writer.rated(opening),
             Frame::OpenPoly(opening) => writer.poly(opening),
             Frame::OpenQueue(opening) => writer.queue(opening),
+            Frame::OpenRuled(opening, rule) => writer.ruled(opening, *rule),
             Frame::DryRun(request) => writer.request(*request),
             Frame::Book(request, dates) => {
                 writer.request(*request);

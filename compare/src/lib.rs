@@ -1,6 +1,7 @@
 //! The original contact managers behind document 01's frames, and behind frame
 //! 15 of document 02's R-1: the original has no such figure, so its own list is
-//! added up.
+//! added up. Frames 21 to 23 of R-4 open the original under rule 1, and a reading
+//! of the documents under rule 2, which the original does not have ([`rules`]).
 //!
 //! Data goes one way: line, frame ([`frames`]), record ([`state`]), the
 //! original's calls ([`calls`]), answer, line. Above that stand the dialogues
@@ -27,6 +28,7 @@ pub mod poly;
 pub mod priority;
 pub mod queue;
 pub mod refusal;
+pub mod rules;
 pub mod segmented;
 pub mod serve;
 pub mod state;

@@ -8,6 +8,7 @@ pub enum Refusal {
     /// no sum is stored that could differ from its list, so this is always
     /// "nothing is open".
     NothingOpen = 1,
+    /// Of a bundle, or of a rule byte (document 02, R-4).
     Bundle = 2,
     Window = 3,
     Rates = 4,
@@ -34,7 +35,31 @@ pub enum Refusal {
 pub const DONE: u8 = 0;
 
 impl Refusal {
+    /// Document 01's, from 1 to 14.
+    const ALL: [Refusal; 14] = [
+        Refusal::NothingOpen,
+        Refusal::Bundle,
+        Refusal::Window,
+        Refusal::Rates,
+        Refusal::Delays,
+        Refusal::Volume,
+        Refusal::NoOffer,
+        Refusal::NoDelay,
+        Refusal::NotOffered,
+        Refusal::ListFull,
+        Refusal::Polynomial,
+        Refusal::NotManual,
+        Refusal::QueueBound,
+        Refusal::Classes,
+    ];
+
     pub fn number(self) -> u8 {
         self as u8
+    }
+
+    /// The refusal of a reading's number; a fault where there is none.
+    pub fn of(number: u8) -> Refusal {
+        let known = Self::ALL.iter().find(|refusal| refusal.number() == number);
+        *known.unwrap_or(&Refusal::Fault)
     }
 }

@@ -10,8 +10,8 @@ use oracle::terminal::{number, shown};
 
 const HELP: &str = "\
 compare: feeds a program and the original contact managers the same frames of
-document 01, and frame 15 of document 02's R-1, and compares their answers line
-by line.
+document 01, frame 15 of document 02's R-1 and frames 21 to 23 of its R-4, and
+compares their answers line by line.
 
   compare --program PATH [--frames N] [--seed S] [--kind KIND] [--dump FILE]
   compare --dump FILE [--frames N] [--seed S] [--kind KIND]
@@ -23,10 +23,11 @@ by line.
   --frames N       compare at least so many (1,000,000); the last dialogue is
                    finished, so the figure is a little larger
   --seed S         the same seed gives the same frames (1)
-  --kind KIND      free, priority, poly, queue, malformed, room, filled or all
-                   (all); room is free with frame 15 after every other frame,
-                   filled is priority without a booking of zero length; all
-                   contains neither
+  --kind KIND      free, priority, poly, queue, malformed, room, filled, rules
+                   or all (all); room is free with frame 15 after every other
+                   frame, filled is priority without a booking of zero length;
+                   all contains neither; rules is frames 21 to 23 under both
+                   delay rules
   --dump FILE      also write the frames to FILE and the expected answers to
                    FILE.answers; all frames are then one run of the program.
                    Without --program they are only written
@@ -39,13 +40,17 @@ until there are no more; the others are random: small contacts, long ones whose
 list grows to 64 segments and past it, contacts at the limits, wrong openings,
 stale and changed offers, malformed lines. All of them ask frame 15 now and
 then. The original has no such figure: the original's own list is added up.
+Nor has it rule 2: what a frame 21, 22 or 23 opens under it is answered by a
+reading of documents 01 and 02; under rule 1 the original itself is opened.
 
 On a difference the frames since the last opening are run again, on the program
 started afresh and on a new oracle, with ever fewer frames; the shortest run
 that still shows a difference is printed with both answers.
 
 The last line on standard output is the figure: compared N frames, D differences.
-The line before it says how many of them were frame 15: of them N frames 15.
+The lines before it say how many of them were frame 15, and how many were
+answered by the reading of rule 2 and how many by the original; the others were
+asked of no manager.
 A difference, or a program that does not exit with 0, makes the exit status 1.
 ";
 
@@ -149,6 +154,12 @@ fn report(outcome: &Outcome) -> ExitCode {
     }
     if outcome.rooms > 0 {
         println!("of them {} frames 15", outcome.rooms);
+    }
+    if outcome.by_reading > 0 {
+        println!(
+            "of them {} frames answered by the reading of rule 2, {} by the original",
+            outcome.by_reading, outcome.by_original
+        );
     }
     println!(
         "compared {} frames, {} differences",

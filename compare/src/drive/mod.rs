@@ -38,10 +38,22 @@ pub struct Outcome {
     /// How many of them are frame 15. The original has no such figure, so these
     /// are no part of the comparison with the original itself.
     pub rooms: usize,
+    /// How many the reading of rule 2 has answered: no part of it either.
+    pub by_reading: usize,
+    pub by_original: usize,
     pub differences: usize,
     pub found: Option<Found>,
     /// How the program ended where it did not end well.
     pub bad_end: Option<End>,
+}
+
+impl Outcome {
+    fn count(&mut self, run: &Run) {
+        self.compared += run.count;
+        self.rooms += run.rooms;
+        self.by_reading += run.by_reading;
+        self.by_original += run.by_original;
+    }
 }
 
 /// A difference, and the shortest run found that shows it.
@@ -57,6 +69,8 @@ pub fn compare(settings: &Settings) -> io::Result<Outcome> {
     let mut outcome = Outcome {
         compared: 0,
         rooms: 0,
+        by_reading: 0,
+        by_original: 0,
         differences: 0,
         found: None,
         bad_end: None,
@@ -66,12 +80,10 @@ pub fn compare(settings: &Settings) -> io::Result<Outcome> {
         if let Some(path) = &settings.dump {
             dump(path, &run)?;
         }
-        let (count, rooms) = (run.count, run.rooms);
+        outcome.count(&run);
         if let Some(program) = &program {
             compare_run(program, run, &mut outcome)?;
         }
-        outcome.compared += count;
-        outcome.rooms += rooms;
         if outcome.found.is_some() || outcome.bad_end.is_some() {
             break;
         }

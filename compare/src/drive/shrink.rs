@@ -33,7 +33,8 @@ pub fn since_opening(lines: &[Vec<u8>], answers: &[u8]) -> Lines {
 }
 
 fn is_opening(line: &[u8]) -> bool {
-    matches!(line.get(..2), Some(b"01" | b"02" | b"03" | b"04"))
+    let kinds: [&[u8]; 7] = [b"01", b"02", b"03", b"04", b"21", b"22", b"23"];
+    line.get(..2).is_some_and(|kind| kinds.contains(&kind))
 }
 
 /// Runs the program and the oracle afresh; the first difference, if any.

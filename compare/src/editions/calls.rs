@@ -1,6 +1,6 @@
 //! The calls under test, by number and values.
 
-use super::terms::{Call, Opening};
+use super::terms::{Call, Field, Opening};
 use crate::frames::{Dates, Request, Span};
 use crate::trial::answers::Said;
 
@@ -15,9 +15,9 @@ pub trait Calls {
     /// Asked of the free-volume manager alone.
     fn room(&mut self) -> Result<i64, u8>;
 
-    /// The same record with this edition in it is open from now on; 1 if it
-    /// breaks its rules by that.
-    fn name_edition(&mut self, edition: u64) -> Result<(), u8>;
+    /// The same record with this in it is open from now on; 1 if it breaks its
+    /// rules by that.
+    fn write(&mut self, field: Field) -> Result<(), u8>;
 }
 
 pub fn ask(calls: &mut impl Calls, call: &Call) -> Said {
@@ -27,7 +27,7 @@ pub fn ask(calls: &mut impl Calls, call: &Call) -> Said {
         Call::Book(request, stated) => Said::done(calls.book(*request, *stated)),
         Call::List => Said::with(calls.list(), Said::Listed),
         Call::Room => Said::with(calls.room(), Said::Room),
-        Call::Edition(edition) => Said::done(calls.name_edition(*edition)),
+        Call::Write(field) => Said::done(calls.write(*field)),
     }
 }
 
@@ -53,7 +53,7 @@ impl<C: Calls + ?Sized> Calls for Box<C> {
         (**self).room()
     }
 
-    fn name_edition(&mut self, edition: u64) -> Result<(), u8> {
-        (**self).name_edition(edition)
+    fn write(&mut self, field: Field) -> Result<(), u8> {
+        (**self).write(field)
     }
 }

@@ -3,12 +3,15 @@
 use std::fmt;
 
 use super::terms::{Call, Manager, SECOND};
-use crate::trial::Counted;
+use crate::rules::LATER;
 use crate::trial::tally::Tally;
 use crate::trial::words::grouped;
+use crate::trial::{Counted, choices};
 
 /// The edition of the record that was called, or of the opening.
 type Edition = u64;
+/// The rule of the same.
+type Rule = u64;
 
 #[derive(Clone, Copy, Debug, PartialEq, Eq, PartialOrd, Ord)]
 pub enum Sort {
@@ -17,7 +20,7 @@ pub enum Sort {
     Booking,
     List,
     Room,
-    Edition,
+    Write,
 }
 
 impl Sort {
@@ -28,7 +31,7 @@ impl Sort {
             Call::Book(..) => Sort::Booking,
             Call::List => Sort::List,
             Call::Room => Sort::Room,
-            Call::Edition(_) => Sort::Edition,
+            Call::Write(_) => Sort::Write,
         }
     }
 
@@ -39,7 +42,7 @@ impl Sort {
             Sort::Booking => "bookings",
             Sort::List => "lists",
             Sort::Room => "rooms",
-            Sort::Edition => "editions written",
+            Sort::Write => "written over",
         }
     }
 }
@@ -50,24 +53,34 @@ type Called = (&'static str, Edition, Sort);
 #[derive(Clone, Debug, Default, PartialEq, Eq)]
 pub struct Figures {
     answers: Tally<Called>,
+    by_rule: Tally<(Rule, Sort)>,
     pub dialogues: usize,
     pub differences: usize,
     /// Segments of the longest list.
     pub longest_list: usize,
-    /// Dry runs that the other edition answers otherwise.
+    /// Dry runs that the other edition answers otherwise, and the other rule.
     pub apart: usize,
+    pub apart_by_rule: usize,
     /// Bookings after which demand 3's sums were held, and under edition 2.
     pub sums: usize,
     pub sums_second: usize,
 }
 
 impl Figures {
-    pub fn count(&mut self, manager: Manager, edition: Edition, sort: Sort, number: u8) {
+    pub fn count(
+        &mut self,
+        manager: Manager,
+        (edition, rule): (Edition, Rule),
+        sort: Sort,
+        number: u8,
+    ) {
         let manager = match manager {
             Manager::Free => "free volume",
             Manager::Priority => "priority",
         };
-        self.answers.count((manager, named(edition), sort), number);
+        let called = (manager, choices::counted(edition), sort);
+        self.answers.count(called, number);
+        self.by_rule.count((choices::counted(rule), sort), number);
     }
 
     pub fn count_sums(&mut self, edition: Edition) {
@@ -82,9 +95,37 @@ impl Figures {
     /// How often a call of this sort on this edition's records got this number,
     /// from either manager.
     pub fn answered(&self, edition: Edition, sort: Sort, number: u8) -> usize {
-        let wanted = (named(edition), sort, number);
+        let wanted = (choices::counted(edition), sort, number);
         self.answers
             .of(|called, number| (called.1, called.2, number) == wanted)
+    }
+
+    pub fn calls_under(&self, rule: Rule) -> usize {
+        self.by_rule.of(|called, _| called.0 == rule)
+    }
+
+    /// The same of this rule's records.
+    pub fn answered_under(&self, rule: Rule, sort: Sort, number: u8) -> usize {
+        let wanted = ((choices::counted(rule), sort), number);
+        self.by_rule.of(|called, number| (called, number) == wanted)
+    }
+
+    fn lines(&self) -> [(&'static str, usize); 7] {
+        [
+            ("dialogues", self.dialogues),
+            ("segments of the longest list", self.longest_list),
+            (
+                "dry runs that the other edition answers otherwise",
+                self.apart,
+            ),
+            (
+                "dry runs that the other rule answers otherwise",
+                self.apart_by_rule,
+            ),
+            ("bookings after which demand 3's sums were held", self.sums),
+            ("  under edition 2", self.sums_second),
+            ("calls under rule 2", self.calls_under(LATER)),
+        ]
     }
 }
 
@@ -102,31 +143,17 @@ impl Counted for Figures {
     }
 }
 
-/// All editions that are none are counted as 0.
-fn named(edition: Edition) -> Edition {
-    if edition > SECOND { 0 } else { edition }
-}
-
 impl fmt::Display for Figures {
     fn fmt(&self, text: &mut fmt::Formatter) -> fmt::Result {
         for ((manager, edition, sort), answers) in self.answers.lines() {
-            let edition = match edition {
-                0 => "no edition".to_string(),
-                known => format!("edition {known}"),
-            };
-            let sort = sort.name();
+            let (edition, sort) = (choices::named("edition", edition), sort.name());
             writeln!(text, "{manager}, {edition}, {sort}: {answers}")?;
         }
-        for (about, count) in [
-            ("dialogues", self.dialogues),
-            ("segments of the longest list", self.longest_list),
-            (
-                "dry runs that the other edition answers otherwise",
-                self.apart,
-            ),
-            ("bookings after which demand 3's sums were held", self.sums),
-            ("  under edition 2", self.sums_second),
-        ] {
+        for ((rule, sort), answers) in self.by_rule.lines() {
+            let (rule, sort) = (choices::named("rule", rule), sort.name());
+            writeln!(text, "{rule}, {sort}: {answers}")?;
+        }
+        for (about, count) in self.lines() {
             writeln!(text, "{about}: {}", grouped(count))?;
         }
         write!(

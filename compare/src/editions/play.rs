@@ -5,8 +5,9 @@ use super::calls::{Calls, ask};
 use super::figures::{Figures, Sort};
 use super::reading::Reading;
 use super::sums::Sums;
-use super::terms::{Call, Dialogue, FIRST, Manager, Opening, SECOND, is_edition};
+use super::terms::{Call, Dialogue, FIRST, Field, Manager, Opening, SECOND};
 use crate::frames::{Dates, Request};
+use crate::rules;
 use crate::trial::answers::{About, Difference, Said, compared};
 
 /// Plays a dialogue up to the first difference.
@@ -44,7 +45,7 @@ impl<C: Calls> Table<'_, C> {
         match call {
             Call::Open(opening) if is_done => self.begin(opening),
             // Nothing is promised of the sums where the edition changes.
-            Call::Edition(_) => self.sums = None,
+            Call::Write(Field::Edition(_)) => self.sums = None,
             Call::DryRun(request) => {
                 self.hold_length(&answered)?;
                 self.count_apart(*request, &answered);
@@ -58,23 +59,25 @@ impl<C: Calls> Table<'_, C> {
     fn compare(&mut self, call: &Call) -> Result<Said, About<Call>> {
         let expected = ask(&mut self.reading, call);
         let answered = ask(self.tested, call);
-        let edition = self.edition_of(call);
+        let chosen = self.chosen_by(call);
         let number = expected.number();
         self.figures
-            .count(self.manager, edition, Sort::of(call), number);
+            .count(self.manager, chosen, Sort::of(call), number);
         compared(call, expected, answered)
     }
 
-    fn edition_of(&self, call: &Call) -> u64 {
+    /// Edition and rule.
+    fn chosen_by(&self, call: &Call) -> (u64, u64) {
         match call {
-            Call::Open(opening) => opening.edition,
-            _ => self.edition(),
+            Call::Open(opening) => (opening.edition, opening.rule),
+            _ => self.chosen(),
         }
     }
 
-    /// With nothing open there is none.
-    fn edition(&self) -> u64 {
-        self.reading.record.as_ref().map_or(0, |it| it.edition)
+    /// With nothing open there are none.
+    fn chosen(&self) -> (u64, u64) {
+        let record = self.reading.record.as_ref();
+        record.map_or((0, 0), |it| (it.edition, it.rule))
     }
 
     fn begin(&mut self, opening: &Opening) {
@@ -86,7 +89,7 @@ impl<C: Calls> Table<'_, C> {
 
     /// Under edition 2 no offer of either manager has zero length.
     fn hold_length(&self, answered: &Said) -> Result<(), About<Call>> {
-        let edition = self.edition();
+        let (edition, _) = self.chosen();
         match answered {
             Said::Offer(Dates([start, end, ..])) if edition == SECOND && start >= end => {
                 Err(About::Claim(format!("send {start},{end} has no length")))
@@ -95,19 +98,25 @@ impl<C: Calls> Table<'_, C> {
         }
     }
 
-    /// Does the choice of edition decide this dry run?
+    /// Does the choice of edition decide this dry run, or that of the rule? A
+    /// record that breaks its rules is left out.
     fn count_apart(&mut self, request: Request, answered: &Said) {
         let Some(record) = &mut self.reading.record else {
             return;
         };
+        if record.test_choices().is_err() {
+            return;
+        }
         let own = record.edition;
         record.edition = if own == FIRST { SECOND } else { FIRST };
-        let other = ask(&mut self.reading, &Call::DryRun(request));
-        if let Some(record) = &mut self.reading.record {
-            record.edition = own;
-        }
-        let is_apart = is_edition(own) && other != *answered;
-        self.figures.apart += usize::from(is_apart);
+        let by_edition = Said::with(record.dry_run(request), Said::Offer);
+        record.edition = own;
+        let own = record.rule;
+        record.rule = rules::other(own);
+        let by_rule = Said::with(record.dry_run(request), Said::Offer);
+        record.rule = own;
+        self.figures.apart += usize::from(by_edition != *answered);
+        self.figures.apart_by_rule += usize::from(by_rule != *answered);
     }
 
     fn after_booking(
@@ -143,7 +152,7 @@ impl<C: Calls> Table<'_, C> {
         };
         sums.book(request.load.size, dates).map_err(About::Claim)?;
         sums.see(listed, *room).map_err(About::Claim)?;
-        self.figures.count_sums(self.edition());
+        self.figures.count_sums(self.chosen().0);
         Ok(())
     }
 }

@@ -24,7 +24,16 @@ pub enum Manager {
 #[derive(Clone, Debug, PartialEq, Eq)]
 pub struct Opening {
     pub edition: u64,
+    /// Of the delays.
+    pub rule: u64,
     pub contact: RatedOpening,
+}
+
+/// What can be written over a record's own.
+#[derive(Clone, Copy, Debug, PartialEq, Eq)]
+pub enum Field {
+    Edition(u64),
+    Rule(u64),
 }
 
 #[derive(Clone, Debug, PartialEq, Eq)]
@@ -34,9 +43,9 @@ pub enum Call {
     Book(Request, Dates),
     List,
     Room,
-    /// No call of document 01: the record that is open, with this edition
-    /// written over its own.
-    Edition(u64),
+    /// No call of document 01: the record that is open, with this written over
+    /// its own.
+    Write(Field),
 }
 
 /// All calls of a dialogue are made to one manager.
@@ -81,9 +90,18 @@ impl fmt::Display for Opening {
         let (rates, delays) = (Spans(&self.contact.rates), Spans(&self.contact.delays));
         write!(
             text,
-            "edition {}, window [{start},{end}); rates {rates}; delays {delays}",
-            self.edition
+            "edition {}, rule {}, window [{start},{end}); rates {rates}; delays {delays}",
+            self.edition, self.rule
         )
+    }
+}
+
+impl fmt::Display for Field {
+    fn fmt(&self, text: &mut fmt::Formatter) -> fmt::Result {
+        match self {
+            Field::Edition(edition) => write!(text, "edition {edition}"),
+            Field::Rule(rule) => write!(text, "rule {rule}"),
+        }
     }
 }
 
@@ -97,7 +115,7 @@ impl fmt::Display for Call {
             }
             Call::List => write!(text, "list"),
             Call::Room => write!(text, "room"),
-            Call::Edition(edition) => write!(text, "edition {edition} written into the record"),
+            Call::Write(field) => write!(text, "written into the record: {field}"),
         }
     }
 }

@@ -1,9 +1,9 @@
 //! Random dialogues: an opening, and calls that its contact makes interesting.
 
-use super::malformed;
 use super::openings::{self, Scale};
 use super::rng::Rng;
 use super::sink::Sink;
+use super::{malformed, ruled};
 use crate::frames::{Dates, Frame, Load, Request, Window};
 use crate::limits::{MAX_CLASSES, MAX_DATE, MAX_LISTED, MAX_PRIORITY, MAX_SIZE};
 
@@ -28,13 +28,8 @@ pub fn dialogue(rng: &mut Rng, manager: Manager, sink: &mut Sink) {
     let scene = Scene::of(&frame);
     // A refused opening is compared too; the old record then goes on.
     let _ = sink.ask(&frame);
-    let mut talk = Talk {
-        rng,
-        sink,
-        scene,
-        books_most: fills || scale == Scale::Roomy,
-        offers: Vec::new(),
-    };
+    let mut talk = Talk::over(rng, sink, scene);
+    talk.books_most = fills || scale == Scale::Roomy;
     if fills {
         talk.fill();
     }
@@ -65,10 +60,15 @@ pub fn malformed_dialogue(rng: &mut Rng, sink: &mut Sink) {
     let frame = opening(rng, manager, Scale::Small);
     let _ = sink.ask(&frame);
     for _ in 0..rng.between(10, 40) {
-        let _ = match rng.below(9) {
+        let _ = match rng.below(12) {
             0 => sink.ask(&Frame::List),
             1 => sink.ask(&Frame::Room),
             2..5 => sink.ask(&openings::wrong(rng)),
+            5..7 => sink.line(&malformed::ruled_line(rng)),
+            7 => {
+                ruled::refused(rng, sink);
+                continue;
+            }
             _ => sink.line(&malformed::line(rng)),
         };
     }
@@ -95,7 +95,7 @@ fn opening(rng: &mut Rng, manager: Manager, scale: Scale) -> Frame {
 // ---------------------------------------------------------------------------
 // What an opening makes interesting
 
-struct Scene {
+pub(super) struct Scene {
     window: Window,
     /// Where a rate or a delay changes.
     edges: Vec<i64>,
@@ -106,7 +106,7 @@ struct Scene {
 }
 
 impl Scene {
-    fn of(frame: &Frame) -> Self {
+    pub(super) fn of(frame: &Frame) -> Self {
         match frame {
             Frame::OpenFree(opening) | Frame::OpenPriority(opening) => Scene {
                 window: opening.window,
@@ -141,14 +141,15 @@ impl Scene {
                 rates: vec![opening.rate],
                 total: opening.rate * (opening.window.end - opening.window.start),
             },
+            Frame::OpenRuled(opening, _) => Scene::of(&opening.clone().plain()),
             _ => unreachable!("scenes come from openings"),
         }
     }
 }
 
-struct Talk<'a> {
-    rng: &'a mut Rng,
-    sink: &'a mut Sink,
+pub(super) struct Talk<'a> {
+    pub(super) rng: &'a mut Rng,
+    pub(super) sink: &'a mut Sink,
     scene: Scene,
     /// So that the list grows to its bound.
     books_most: bool,
@@ -156,8 +157,19 @@ struct Talk<'a> {
     offers: Vec<(Request, Dates)>,
 }
 
-impl Talk<'_> {
-    fn step(&mut self, manager: Manager) {
+impl<'a> Talk<'a> {
+    /// Over a record that is open.
+    pub(super) fn over(rng: &'a mut Rng, sink: &'a mut Sink, scene: Scene) -> Self {
+        Talk {
+            rng,
+            sink,
+            scene,
+            books_most: false,
+            offers: Vec::new(),
+        }
+    }
+
+    pub(super) fn step(&mut self, manager: Manager) {
         if manager == Manager::Queue && self.rng.once_in(3) {
             return self.queue_by_hand();
         }
@@ -181,7 +193,7 @@ impl Talk<'_> {
 
     /// Books whole ticks strictly inside listed segments until the list is
     /// full or nearly so; a send without length would drop a right part.
-    fn fill(&mut self) {
+    pub(super) fn fill(&mut self) {
         let enough = MAX_LISTED - self.rng.below(3);
         for _ in 0..3 * MAX_LISTED {
             let listed = self.sink.listed();

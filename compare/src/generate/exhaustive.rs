@@ -7,6 +7,7 @@ use crate::frames::{
     BUDGETS, Content, Dates, Frame, Load, PolyOpening, QueueOpening, RatedOpening, Request, Span,
     Window, flag,
 };
+use crate::rules::{EARLIER, LATER};
 
 /// One contact and what is asked of it.
 pub struct Tiny {
@@ -289,6 +290,66 @@ fn loose_delays(turn: usize) -> Vec<Span> {
         2 => vec![span(2, 4, 1), span(0, 1, 7)],
         3 => vec![span(0, 1, 7), span(3, 2, 4), span(1, 9, 2)],
         _ => vec![span(0, 9, 3)],
+    }
+}
+
+// ---------------------------------------------------------------------------
+// Both delay rules
+
+/// Each segment has its own delay, by its place.
+const DELAYS: [i64; 4] = [9, 2, 30, 0];
+
+/// Contacts of a manager that looks up delays, with every way to cut the window
+/// into delay segments, under both rules.
+pub fn ruled(manager: Manager) -> Vec<Tiny> {
+    let mut contacts = Vec::new();
+    for length in 1..=DELAYS.len() as i64 {
+        for mut delays in rate_lists(length, &[0]) {
+            for (delay, own) in delays.iter_mut().zip(DELAYS) {
+                delay.value = own;
+            }
+            for rate in [1, 2] {
+                for rule in [LATER, EARLIER] {
+                    let open = even(manager, window(length), rate, delays.clone());
+                    contacts.push(ruled_tiny(open.ruled(rule as u8), length, rate));
+                }
+            }
+        }
+    }
+    contacts
+}
+
+/// One rate over the window.
+fn even(manager: Manager, window: Window, rate: i64, delays: Vec<Span>) -> Frame {
+    let Window { start, end } = window;
+    let rated = |delays| RatedOpening {
+        window,
+        rates: vec![Span {
+            start,
+            end,
+            value: rate,
+        }],
+        delays,
+    };
+    match manager {
+        Manager::Poly => Frame::OpenPoly(PolyOpening {
+            window,
+            offset: start,
+            coefficients: [rate, 0, 0, 0],
+            delays,
+        }),
+        Manager::Priority => Frame::OpenPriority(rated(delays)),
+        _ => Frame::OpenFree(rated(delays)),
+    }
+}
+
+fn ruled_tiny(open: Frame, length: i64, rate: i64) -> Tiny {
+    Tiny {
+        open,
+        asked: requests(window(length), length * rate + 1, &[0]),
+        depth: if length < 3 { 2 } else { 1 },
+        loads: Vec::new(),
+        filled: false,
     }
 }
 

@@ -1,15 +1,26 @@
 //! Lines that are damaged copies of frames, or never were one. What is still a
 //! frame after the damage is compared all the same.
 
-use super::openings;
 use super::rng::Rng;
+use super::{openings, ruled};
 use crate::frames::{Dates, Frame, Load, MAX_DIGITS, Request};
 
 /// Bytes that are no lower-case digits, line ends left out.
 const OTHER_BYTES: &[u8] = b"gGAFBCDEzZ \t\r\0x-+./:@`{_\x7f\x80\xff";
 
+/// Of document 01's frames and frame 15, as in the stored list.
 pub fn line(rng: &mut Rng) -> Vec<u8> {
     let frame = any_frame(rng).encode();
+    damaged(rng, frame)
+}
+
+/// Of frames 21 to 23 (document 02, R-4).
+pub fn ruled_line(rng: &mut Rng) -> Vec<u8> {
+    let frame = ruled::any(rng).encode();
+    damaged(rng, frame)
+}
+
+fn damaged(rng: &mut Rng, frame: Vec<u8>) -> Vec<u8> {
     match rng.below(14) {
         0 => Vec::new(),
         1 => frame[..rng.below(frame.len())].to_vec(),

@@ -8,6 +8,7 @@ pub mod list;
 pub mod malformed;
 pub mod openings;
 pub mod rng;
+pub mod ruled;
 pub mod sink;
 
 use dialogues::Manager;
@@ -28,13 +29,15 @@ pub enum Kind {
     Room,
     /// A priority record on which no send of zero length is booked.
     Filled,
+    /// The managers that look up delays, with frames 21 to 23 under both rules.
+    Rules,
     /// Everything but `Room` and `Filled`: the others ask frame 15 now and
     /// then, and book sends of any length.
     All,
 }
 
 impl Kind {
-    pub const NAMES: [(&str, Kind); 8] = [
+    pub const NAMES: [(&str, Kind); 9] = [
         ("free", Kind::Free),
         ("priority", Kind::Priority),
         ("poly", Kind::Poly),
@@ -42,6 +45,7 @@ impl Kind {
         ("malformed", Kind::Malformed),
         ("room", Kind::Room),
         ("filled", Kind::Filled),
+        ("rules", Kind::Rules),
         ("all", Kind::All),
     ];
 
@@ -56,6 +60,7 @@ impl Kind {
 enum Theme {
     Manager(Manager),
     Filled,
+    Ruled(Manager),
 }
 
 /// A source of dialogues of one theme. Tiny contacts take every second turn
@@ -72,6 +77,7 @@ impl Source {
         let tiny = match theme {
             Theme::Manager(manager) => exhaustive::contacts(manager),
             Theme::Filled => exhaustive::filled(),
+            Theme::Ruled(manager) => exhaustive::ruled(manager),
         };
         Source {
             theme,
@@ -96,6 +102,7 @@ impl Source {
             match self.theme {
                 Theme::Manager(manager) => dialogues::dialogue(rng, manager, sink),
                 Theme::Filled => filled::dialogue(rng, sink),
+                Theme::Ruled(manager) => ruled::dialogue(rng, manager, sink),
             }
             self.in_random += sink.count() - before;
         }
@@ -123,6 +130,7 @@ impl Stream {
             Manager::Poly,
             Manager::Queue,
         ];
+        let ruled = ruled::MANAGERS.map(Theme::Ruled);
         let themes = match kind {
             Kind::Free | Kind::Room => vec![Theme::Manager(Manager::Free)],
             Kind::Priority => vec![Theme::Manager(Manager::Priority)],
@@ -130,7 +138,8 @@ impl Stream {
             Kind::Queue => vec![Theme::Manager(Manager::Queue)],
             Kind::Filled => vec![Theme::Filled],
             Kind::Malformed => vec![],
-            Kind::All => managers.map(Theme::Manager).to_vec(),
+            Kind::Rules => ruled.to_vec(),
+            Kind::All => [&managers.map(Theme::Manager)[..], &ruled].concat(),
         };
         Stream {
             rng: Rng::new(seed),

@@ -3,6 +3,7 @@
 use crate::Oracle;
 use crate::frames::{self, Answer, Content, Dates, Frame, Request, Span};
 use crate::refusal::Refusal;
+use crate::state::By;
 
 /// One run of a program: its frames and the answers that are expected, each
 /// line with its line end.
@@ -14,6 +15,9 @@ pub struct Run {
     /// How many of them are frame 15, to which the original has no answer of
     /// its own.
     pub rooms: usize,
+    /// How many the reading of rule 2 has answered, and how many the original.
+    pub by_reading: usize,
+    pub by_original: usize,
 }
 
 impl Run {
@@ -77,6 +81,11 @@ impl Sink {
         self.run.answers.push(b'\n');
         self.run.count += 1;
         self.run.rooms += usize::from(is_room(line));
+        match self.oracle.answered() {
+            By::Reading => self.run.by_reading += 1,
+            By::Original => self.run.by_original += 1,
+            By::Nobody => {}
+        }
         answer
     }
 

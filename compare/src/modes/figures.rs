@@ -4,12 +4,15 @@ use std::fmt;
 
 use super::claims::Held;
 use super::terms::{Call, EXACT};
-use crate::trial::Counted;
+use crate::rules::LATER;
 use crate::trial::tally::Tally;
 use crate::trial::words::grouped;
+use crate::trial::{Counted, choices};
 
 /// The mode of the record that was called, or of the opening.
 type Mode = u64;
+/// The rule of the same.
+type Rule = u64;
 
 #[derive(Clone, Copy, Debug, PartialEq, Eq, PartialOrd, Ord)]
 pub enum Sort {
@@ -45,12 +48,14 @@ impl Sort {
 #[derive(Clone, Debug, Default, PartialEq, Eq)]
 pub struct Figures {
     answers: Tally<(Mode, Sort)>,
+    by_rule: Tally<(Rule, Sort)>,
     pub dialogues: usize,
     pub differences: usize,
     /// Segments of the longest list.
     pub longest_list: usize,
-    /// Dry runs that the other mode answers otherwise.
+    /// Dry runs that the other mode answers otherwise, and the other rule.
     pub apart: usize,
+    pub apart_by_rule: usize,
     pub claims: Claimed,
 }
 
@@ -73,8 +78,9 @@ impl Claimed {
 }
 
 impl Figures {
-    pub fn count(&mut self, mode: Mode, sort: Sort, number: u8) {
-        self.answers.count((named(mode), sort), number);
+    pub fn count(&mut self, (mode, rule): (Mode, Rule), sort: Sort, number: u8) {
+        self.answers.count((choices::counted(mode), sort), number);
+        self.by_rule.count((choices::counted(rule), sort), number);
     }
 
     pub fn calls_of(&self, mode: Mode) -> usize {
@@ -83,11 +89,21 @@ impl Figures {
 
     /// How often a call of this sort on this mode's records got this number.
     pub fn answered(&self, mode: Mode, sort: Sort, number: u8) -> usize {
-        let wanted = ((named(mode), sort), number);
+        let wanted = ((choices::counted(mode), sort), number);
         self.answers.of(|called, number| (called, number) == wanted)
     }
 
-    fn lines(&self) -> [(&'static str, usize); 8] {
+    pub fn calls_under(&self, rule: Rule) -> usize {
+        self.by_rule.of(|called, _| called.0 == rule)
+    }
+
+    /// The same of this rule's records.
+    pub fn answered_under(&self, rule: Rule, sort: Sort, number: u8) -> usize {
+        let wanted = ((choices::counted(rule), sort), number);
+        self.by_rule.of(|called, number| (called, number) == wanted)
+    }
+
+    fn lines(&self) -> [(&'static str, usize); 11] {
         let Claimed {
             held,
             is_equal,
@@ -98,6 +114,10 @@ impl Figures {
             ("dialogues", self.dialogues),
             ("segments of the longest list", self.longest_list),
             ("dry runs that the other mode answers otherwise", self.apart),
+            (
+                "dry runs that the other rule answers otherwise",
+                self.apart_by_rule,
+            ),
             ("ends in mode 2 with enough exact capacity", held),
             ("  one tick earlier has less", held - is_equal),
             ("  exactly the size", is_equal),
@@ -106,6 +126,8 @@ impl Figures {
                 "  the first tick with enough, at rates above zero",
                 is_first,
             ),
+            ("calls in mode 2", self.calls_of(EXACT)),
+            ("calls under rule 2", self.calls_under(LATER)),
         ]
     }
 }
@@ -124,24 +146,19 @@ impl Counted for Figures {
     }
 }
 
-/// All modes that are none are counted as 0.
-fn named(mode: Mode) -> Mode {
-    if mode > EXACT { 0 } else { mode }
-}
-
 impl fmt::Display for Figures {
     fn fmt(&self, text: &mut fmt::Formatter) -> fmt::Result {
         for ((mode, sort), answers) in self.answers.lines() {
-            let mode = match mode {
-                0 => "no mode".to_string(),
-                known => format!("mode {known}"),
-            };
+            let mode = choices::named("mode", mode);
             writeln!(text, "{mode}, {}: {answers}", sort.name())?;
+        }
+        for ((rule, sort), answers) in self.by_rule.lines() {
+            let rule = choices::named("rule", rule);
+            writeln!(text, "{rule}, {}: {answers}", sort.name())?;
         }
         for (about, count) in self.lines() {
             writeln!(text, "{about}: {}", grouped(count))?;
         }
-        writeln!(text, "calls in mode 2: {}", grouped(self.calls_of(EXACT)))?;
         write!(
             text,
             "compared {} calls, {} differences",

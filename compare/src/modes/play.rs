@@ -5,8 +5,10 @@ use super::calls::{Calls, ask};
 use super::claims::Claims;
 use super::figures::{Figures, Sort};
 use super::reading::Reading;
-use super::terms::{Call, Dialogue, EXACT, PORTED, is_mode};
+use super::reading::record::Record;
+use super::terms::{Call, Dialogue, EXACT, PORTED};
 use crate::frames::{Dates, Request};
+use crate::rules;
 use crate::trial::answers::{About, Difference, Said, compared};
 
 /// Plays a dialogue up to the first difference.
@@ -61,18 +63,19 @@ impl<C: Calls> Table<'_, C> {
     fn compare(&mut self, call: &Call) -> Result<Said, About<Call>> {
         let expected = ask(&mut self.reading, call);
         let answered = ask(self.tested, call);
-        let mode = match call {
-            Call::Open(opening) => opening.mode,
-            _ => self.mode(),
+        let chosen = match call {
+            Call::Open(opening) => (opening.mode, opening.rule),
+            _ => self.chosen(),
         };
-        self.figures.count(mode, Sort::of(call), expected.number());
+        self.figures
+            .count(chosen, Sort::of(call), expected.number());
         compared(call, expected, answered)
     }
 
-    /// With nothing open there is none.
-    fn mode(&self) -> u64 {
+    /// Mode and rule; with nothing open there are none.
+    fn chosen(&self) -> (u64, u64) {
         let record = self.reading.record.as_ref();
-        record.map_or(0, |record| record.opening.mode)
+        record.map_or((0, 0), |it| (it.opening.mode, it.opening.rule))
     }
 
     fn renew_claims(&mut self) {
@@ -92,22 +95,27 @@ impl<C: Calls> Table<'_, C> {
         Ok(())
     }
 
-    /// Does the choice of mode decide this dry run? A polynomial outside the
-    /// other mode's range is left out.
+    /// Does the choice of mode decide this dry run, or that of the rule? What
+    /// breaks its rules, or would with the other choice, is left out.
     fn count_apart(&mut self, request: Request, answered: &Said) {
         let Some(record) = self.reading.record.as_ref() else {
             return;
         };
-        let mut other = record.clone();
-        other.opening.mode = match record.opening.mode == EXACT {
+        if record.test().is_err() {
+            return;
+        }
+        let (mut by_mode, mut by_rule) = (record.clone(), record.clone());
+        by_mode.opening.mode = match record.opening.mode == EXACT {
             true => PORTED,
             false => EXACT,
         };
-        if !is_mode(record.opening.mode) || other.test().is_err() {
-            return;
-        }
-        let said = Said::with(other.dry_run(request), Said::Offer);
-        self.figures.apart += usize::from(said != *answered);
+        by_rule.opening.rule = rules::other(record.opening.rule);
+        let is_apart = |other: &Record| {
+            let said = Said::with(other.dry_run(request), Said::Offer);
+            other.test().is_ok() && said != *answered
+        };
+        self.figures.apart += usize::from(is_apart(&by_mode));
+        self.figures.apart_by_rule += usize::from(is_apart(&by_rule));
     }
 
     fn list_after_booking(&mut self) -> Result<(), About<Call>> {

@@ -17,6 +17,8 @@ pub fn is_mode(mode: u64) -> bool {
 #[derive(Clone, Debug, PartialEq, Eq)]
 pub struct Opening {
     pub mode: u64,
+    /// Of the delays (R-4).
+    pub rule: u64,
     pub contact: PolyOpening,
 }
 
@@ -24,6 +26,7 @@ pub struct Opening {
 #[derive(Clone, Copy, Debug, PartialEq, Eq)]
 pub enum Field {
     Mode(u64),
+    Rule(u64),
     Offset(i64),
     /// By its power.
     Coefficient(usize, i64),
@@ -33,6 +36,7 @@ impl Field {
     pub fn write(self, opening: &mut Opening) {
         match self {
             Field::Mode(mode) => opening.mode = mode,
+            Field::Rule(rule) => opening.rule = rule,
             Field::Offset(offset) => opening.contact.offset = offset,
             Field::Coefficient(power, number) => opening.contact.coefficients[power] = number,
         }
@@ -83,10 +87,10 @@ impl fmt::Display for Opening {
             coefficients: [c0, c1, c2, c3],
             delays,
         } = &self.contact;
-        let (mode, delays) = (self.mode, Spans(delays));
+        let (mode, rule, delays) = (self.mode, self.rule, Spans(delays));
         write!(
             text,
-            "mode {mode}, window [{start},{end}); offset {offset}, \
+            "mode {mode}, rule {rule}, window [{start},{end}); offset {offset}, \
              coefficients {c0},{c1},{c2},{c3}; delays {delays}",
         )
     }
@@ -96,6 +100,7 @@ impl fmt::Display for Field {
     fn fmt(&self, text: &mut fmt::Formatter) -> fmt::Result {
         match self {
             Field::Mode(mode) => write!(text, "mode {mode}"),
+            Field::Rule(rule) => write!(text, "rule {rule}"),
             Field::Offset(offset) => write!(text, "offset {offset}"),
             Field::Coefficient(power, number) => write!(text, "coefficient {power}: {number}"),
         }

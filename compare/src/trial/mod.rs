@@ -4,6 +4,7 @@
 
 pub mod altered;
 pub mod answers;
+pub mod choices;
 pub mod offers;
 pub mod program;
 pub mod scales;

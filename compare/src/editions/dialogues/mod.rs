@@ -7,14 +7,16 @@ mod wrong;
 
 use super::terms::{Dialogue, FIRST, Manager, SECOND};
 use crate::generate::rng::Rng;
+use crate::rules::EARLIER;
+use crate::trial::choices;
 use talk::Talk;
 
-/// Which editions are chosen.
+/// Which editions and rules are chosen.
 #[derive(Clone, Copy, Debug, PartialEq, Eq)]
 pub enum Editions {
-    /// Mostly edition 2, and now and then an edition that is none.
+    /// Mostly edition 2 and rule 2, and now and then one that is none.
     Both,
-    /// Edition 1 alone: there is an original to compare with.
+    /// Edition 1 and rule 1 alone: there is an original to compare with.
     First,
 }
 
@@ -22,11 +24,16 @@ pub enum Editions {
 const FIRST_SHARE: usize = 4;
 
 impl Editions {
-    fn pick(self, rng: &mut Rng) -> u64 {
-        match self {
-            Editions::Both if !rng.once_in(FIRST_SHARE) => SECOND,
-            _ => FIRST,
+    /// An edition and a rule.
+    fn pick(self, rng: &mut Rng) -> (u64, u64) {
+        if self == Editions::First {
+            return (FIRST, EARLIER);
         }
+        let edition = match rng.once_in(FIRST_SHARE) {
+            true => FIRST,
+            false => SECOND,
+        };
+        (edition, choices::rule(rng))
     }
 }
 

@@ -5,10 +5,12 @@ use super::{Editions, asked, contacts, wrong};
 use crate::editions::calls::{Calls, ask};
 use crate::editions::reading::Reading;
 use crate::editions::reading::record::Record;
-use crate::editions::terms::{Call, Dialogue, FIRST, Manager, Opening, SECOND};
+use crate::editions::terms::{Call, Dialogue, FIRST, Field, Manager, Opening, SECOND};
 use crate::frames::{Dates, Request};
 use crate::generate::rng::Rng;
 use crate::limits::MAX_LISTED;
+use crate::rules;
+use crate::trial::choices;
 use crate::trial::offers::Offers;
 use crate::trial::scales::{self, Scale};
 
@@ -109,8 +111,10 @@ impl<'a> Talk<'a> {
 
     fn open(&mut self) {
         let scale = scales::scale(self.rng);
+        let (edition, rule) = self.editions.pick(self.rng);
         let opening = Opening {
-            edition: self.editions.pick(self.rng),
+            edition,
+            rule,
             contact: contacts::contact(self.rng, scale),
         };
         self.ask(Call::Open(opening));
@@ -121,21 +125,26 @@ impl<'a> Talk<'a> {
         }
     }
 
-    /// A wrong edition over any contact, or a right one over a wrong contact.
+    /// A wrong edition or rule over any contact, or right ones over a wrong
+    /// contact.
     fn open_wrongly(&mut self) {
         let scale = scales::scale(self.rng);
         let mut contact = contacts::contact(self.rng, scale);
-        let has_edition = self.editions == Editions::First || self.rng.once_in(2);
-        if has_edition || self.rng.once_in(2) {
+        let has_choices = self.editions == Editions::First || self.rng.once_in(2);
+        if has_choices || self.rng.once_in(2) {
             wrong::spoil(self.rng, &mut contact);
         }
-        let edition = match has_edition {
-            true => self.editions.pick(self.rng),
-            false => wrong::edition(self.rng),
+        let picked = self.editions.pick(self.rng);
+        let (edition, rule) = match has_choices {
+            true => picked,
+            false => choices::spoiled(self.rng, picked),
         };
-        let opening = Opening { edition, contact };
         // Faults may cancel, and then the record is a new one.
-        self.ask(Call::Open(opening));
+        self.ask(Call::Open(Opening {
+            edition,
+            rule,
+            contact,
+        }));
     }
 
     /// Up to 64 listed segments, and on to the refusal of a 65th.
@@ -177,32 +186,38 @@ impl<'a> Talk<'a> {
     }
 
     // -----------------------------------------------------------------------
-    // Editions in records
+    // Editions and rules in records
 
-    /// A record whose edition is none refuses every call with 1, bundles outside
-    /// their limits too, and is as it was when the edition is put back.
+    /// A record whose edition or rule is none refuses every call with 1, bundles
+    /// outside their limits too, and is as it was when its own is put back.
     fn damage(&mut self) {
         if self.editions == Editions::First {
             return self.dry_run();
         }
-        let whole = self.record().edition;
+        let none = choices::none(self.rng);
+        let (damage, whole) = match self.rng.once_in(2) {
+            true => (Field::Edition(none), Field::Edition(self.record().edition)),
+            false => (Field::Rule(none), Field::Rule(self.record().rule)),
+        };
         let request = self.request();
         let offer = self.offered(request).unwrap_or(Dates([0; 4]));
-        let edition = wrong::edition(self.rng);
-        self.ask(Call::Edition(edition));
+        self.ask(Call::Write(damage));
         self.ask(Call::DryRun(request));
         self.ask(Call::Book(request, offer));
         self.ask_wrongly();
         self.ask_room();
-        self.ask(Call::Edition(whole));
+        self.ask(Call::Write(whole));
     }
 
-    /// The other edition from now on; or another contact.
+    /// The other edition or rule from now on; or another contact.
     fn change(&mut self) {
         if self.editions == Editions::First || self.rng.once_in(2) {
             return self.open();
         }
-        let other = FIRST + SECOND - self.record().edition;
-        self.ask(Call::Edition(other));
+        let other = match self.rng.once_in(2) {
+            true => Field::Edition(FIRST + SECOND - self.record().edition),
+            false => Field::Rule(rules::other(self.record().rule)),
+        };
+        self.ask(Call::Write(other));
     }
 }

@@ -1,30 +1,10 @@
-//! Openings that are refused: an edition that is none, and one to three faults
-//! of document 01's other kinds. Some faults cancel.
+//! Contacts that are refused: one to three faults of document 01's kinds. Some
+//! faults cancel.
 
 use super::contacts::of_total;
 use crate::frames::{RatedOpening, Span, Window};
 use crate::generate::rng::Rng;
 use crate::limits::{MAX_DATE, MAX_DELAY, MAX_LENGTH, MAX_RATE, MAX_RATES, MAX_VOLUME};
-
-/// Editions that are none; some look like 1 or 2 in fewer bits.
-const NONE: [u64; 12] = [
-    0,
-    3,
-    4,
-    127,
-    255,
-    256,
-    257,
-    258,
-    (1 << 32) + 1,
-    (1 << 32) + 2,
-    u64::MAX - 1,
-    u64::MAX,
-];
-
-pub fn edition(rng: &mut Rng) -> u64 {
-    rng.pick(&NONE)
-}
 
 pub fn spoil(rng: &mut Rng, contact: &mut RatedOpening) {
     for _ in 0..rng.between(1, 3) {

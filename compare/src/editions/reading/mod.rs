@@ -1,4 +1,5 @@
-//! Document 01 with R-5's editions, read from the documents' words alone.
+//! Document 01 with R-5's editions and R-4's rules, read from the documents' words
+//! alone.
 
 pub mod capacity;
 mod free;
@@ -7,7 +8,7 @@ mod priority;
 pub mod record;
 
 use super::calls::Calls;
-use super::terms::{Manager, Opening};
+use super::terms::{Field, Manager, Opening};
 use crate::frames::{Dates, Request, Span};
 use record::Record;
 
@@ -28,10 +29,10 @@ impl Reading {
         self.record.as_mut().ok_or(1)
     }
 
-    /// A record that is open and names an edition there is.
+    /// A record that is open and names an edition and a rule there are.
     fn whole_record(&mut self) -> Result<&Record, u8> {
         let record = self.open_record()?;
-        record.test_edition()?;
+        record.test_choices()?;
         Ok(record)
     }
 }
@@ -61,11 +62,14 @@ impl Calls for Reading {
         Ok(self.whole_record()?.room())
     }
 
-    /// What it lists keeps the rules of either edition: no volume is above the
-    /// exact capacity.
-    fn name_edition(&mut self, edition: u64) -> Result<(), u8> {
+    /// What it lists keeps the rules of either edition, as no volume is above the
+    /// exact capacity, and its delays those of either rule, as they cover.
+    fn write(&mut self, field: Field) -> Result<(), u8> {
         let record = self.open_record()?;
-        record.edition = edition;
-        record.test_edition()
+        match field {
+            Field::Edition(edition) => record.edition = edition,
+            Field::Rule(rule) => record.rule = rule,
+        }
+        record.test_choices()
     }
 }

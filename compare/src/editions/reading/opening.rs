@@ -1,13 +1,15 @@
-//! Which openings are refused, and with which number: R-5's 2 "before all
-//! else", then document 01's 3, 4, 6, 5.
+//! Which openings are refused, and with which number: R-5's and R-4's 2 "before
+//! all else", then document 01's 3, 4, 6, 5.
 
 use crate::editions::terms::{Opening, is_edition};
 use crate::frames::{Span, Window};
-use crate::limits::{MAX_DATE, MAX_DELAY, MAX_DELAYS, MAX_LENGTH, MAX_RATE, MAX_RATES, MAX_VOLUME};
+use crate::limits::{MAX_DATE, MAX_LENGTH, MAX_RATE, MAX_RATES, MAX_VOLUME};
+use crate::rules::cover::{covers, delays_cover};
+use crate::rules::is_rule;
 
 pub fn refusal(opening: &Opening) -> Option<u8> {
     let contact = &opening.contact;
-    if !is_edition(opening.edition) {
+    if !is_edition(opening.edition) || !is_rule(opening.rule) {
         return Some(2);
     }
     if !window_in_limits(contact.window) {
@@ -19,7 +21,7 @@ pub fn refusal(opening: &Opening) -> Option<u8> {
     if !rates_in_limits(&contact.rates) {
         return Some(6);
     }
-    if !delays_in_limits(&contact.delays, contact.window) {
+    if !delays_cover(&contact.delays, contact.window) {
         return Some(5);
     }
     None
@@ -33,18 +35,6 @@ fn window_in_limits(window: Window) -> bool {
         && window.end - window.start <= MAX_LENGTH
 }
 
-/// 1 to `most` segments, none empty or backward, no gap, exactly the window.
-fn covers(list: &[Span], window: Window, most: usize) -> bool {
-    let (Some(first), Some(last)) = (list.first(), list.last()) else {
-        return false;
-    };
-    list.len() <= most
-        && list.iter().all(|span| span.start < span.end)
-        && list.windows(2).all(|pair| pair[0].end == pair[1].start)
-        && first.start == window.start
-        && last.end == window.end
-}
-
 /// Each rate first: a sum over rates outside their limits might not be held.
 fn rates_in_limits(rates: &[Span]) -> bool {
     rates
@@ -56,11 +46,4 @@ fn rates_in_limits(rates: &[Span]) -> bool {
 fn total(rates: &[Span]) -> u128 {
     let volume = |rate: &Span| rate.value as u128 * (rate.end - rate.start) as u128;
     rates.iter().map(volume).sum()
-}
-
-fn delays_in_limits(delays: &[Span], window: Window) -> bool {
-    covers(delays, window, MAX_DELAYS)
-        && delays
-            .iter()
-            .all(|delay| (0..=MAX_DELAY).contains(&delay.value))
 }

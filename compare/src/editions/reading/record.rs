@@ -5,6 +5,8 @@ use super::{free, priority};
 use crate::editions::terms::{FIRST, Manager, Opening, is_edition};
 use crate::frames::{Dates, Load, Request, Span, Window};
 use crate::limits::{MAX_DATE, MAX_LISTED, MAX_PRIORITY, MAX_SIZE};
+use crate::rules::is_rule;
+use crate::rules::lookup::Delays;
 
 /// The listed value of what is not booked.
 const NOT_BOOKED: i64 = -1;
@@ -21,6 +23,7 @@ pub struct Send {
 pub struct Record {
     pub manager: Manager,
     pub edition: u64,
+    pub rule: u64,
     pub window: Window,
     pub capacity: Capacity,
     pub delays: Vec<Span>,
@@ -40,6 +43,7 @@ impl Record {
         Record {
             manager,
             edition: opening.edition,
+            rule: opening.rule,
             window,
             capacity,
             delays: opening.contact.delays.clone(),
@@ -84,9 +88,9 @@ impl Record {
         self.list.iter().map(|span| span.value).sum()
     }
 
-    /// 1 before 2. Only the edition of a record can be wrong here.
+    /// 1 before 2. Only the edition and the rule of a record can be wrong here.
     pub fn test(&self, request: Request) -> Result<(), u8> {
-        self.test_edition()?;
+        self.test_choices()?;
         let Request { time, load } = request;
         let in_limits = (0..=MAX_DATE).contains(&time)
             && (1..=MAX_SIZE).contains(&load.size)
@@ -94,8 +98,8 @@ impl Record {
         if in_limits { Ok(()) } else { Err(2) }
     }
 
-    pub fn test_edition(&self) -> Result<(), u8> {
-        if is_edition(self.edition) {
+    pub fn test_choices(&self) -> Result<(), u8> {
+        if is_edition(self.edition) && is_rule(self.rule) {
             Ok(())
         } else {
             Err(1)
@@ -116,21 +120,15 @@ impl Record {
         }
     }
 
-    /// Delay: "the first segment whose end is not before the date; the end's
-    /// lookup goes on from the start's".
     pub fn dates(&self, send: Send) -> Result<Dates, u8> {
-        let first = self.delay_from(0, send.start).ok_or(8)?;
-        let second = self.delay_from(first, send.end).ok_or(8)?;
-        let received = |date, place: usize| date + self.delays[place].value;
-        Ok(Dates([
-            send.start,
-            send.end,
-            received(send.start, first),
-            received(send.end, second),
-        ]))
+        self.looked_up().dates(send.start, send.end)
     }
 
-    fn delay_from(&self, place: usize, date: i64) -> Option<usize> {
-        (place..self.delays.len()).find(|place| self.delays[*place].end >= date)
+    fn looked_up(&self) -> Delays<'_> {
+        Delays {
+            rule: self.rule,
+            window: self.window,
+            list: &self.delays,
+        }
     }
 }

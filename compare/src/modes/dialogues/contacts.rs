@@ -11,20 +11,23 @@ use crate::trial::scales::{Scale, length};
 /// Of so many openings one has a polynomial at the range rule's limit.
 const LIMIT_SHARE: usize = 6;
 
-pub fn opening(rng: &mut Rng, mode: u64, scale: Scale) -> Opening {
+/// A mode and a rule.
+type Chosen = (u64, u64);
+
+pub fn opening(rng: &mut Rng, chosen: Chosen, scale: Scale) -> Opening {
     if scale != Scale::Roomy && rng.once_in(LIMIT_SHARE) {
-        return at_limit(rng, mode, scale);
+        return at_limit(rng, chosen, scale);
     }
     let window = window(rng, scale);
     let offset = offset(rng, window);
-    let mut opening = bare(rng, mode, window, offset);
+    let mut opening = bare(rng, chosen, window, offset);
     let shape = shapes::shape(rng, window.end - window.start, scale);
     shapes::settle(rng, &mut opening, shape);
     opening
 }
 
 /// Short distances most: only beside the offset is a single unit more seen.
-fn at_limit(rng: &mut Rng, mode: u64, scale: Scale) -> Opening {
+fn at_limit(rng: &mut Rng, chosen: Chosen, scale: Scale) -> Opening {
     let (window, offset) = match rng.below(4) {
         0 => {
             let window = window(rng, scale);
@@ -33,7 +36,7 @@ fn at_limit(rng: &mut Rng, mode: u64, scale: Scale) -> Opening {
         1 => beside(rng, 40),
         _ => beside(rng, 1),
     };
-    let mut opening = bare(rng, mode, window, offset);
+    let mut opening = bare(rng, chosen, window, offset);
     shapes::to_edge(rng, &mut opening);
     opening
 }
@@ -48,9 +51,10 @@ fn beside(rng: &mut Rng, most: i64) -> (Window, i64) {
     (window, rng.pick(&[start, end, inside]))
 }
 
-fn bare(rng: &mut Rng, mode: u64, window: Window, offset: i64) -> Opening {
+fn bare(rng: &mut Rng, (mode, rule): Chosen, window: Window, offset: i64) -> Opening {
     Opening {
         mode,
+        rule,
         contact: PolyOpening {
             window,
             offset,

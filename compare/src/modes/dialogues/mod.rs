@@ -8,14 +8,16 @@ mod wrong;
 
 use super::terms::{Dialogue, EXACT, PORTED};
 use crate::generate::rng::Rng;
+use crate::rules::EARLIER;
+use crate::trial::choices;
 use talk::Talk;
 
-/// Which modes are chosen.
+/// Which modes and rules are chosen.
 #[derive(Clone, Copy, Debug, PartialEq, Eq)]
 pub enum Modes {
-    /// Mostly mode 2, and now and then a mode that is none.
+    /// Mostly mode 2 and rule 2, and now and then one that is none.
     Both,
-    /// Mode 1 alone: there is an original to compare with.
+    /// Mode 1 and rule 1 alone: there is an original to compare with.
     Ported,
 }
 
@@ -23,11 +25,16 @@ pub enum Modes {
 const PORTED_SHARE: usize = 4;
 
 impl Modes {
-    fn pick(self, rng: &mut Rng) -> u64 {
-        match self {
-            Modes::Both if !rng.once_in(PORTED_SHARE) => EXACT,
-            _ => PORTED,
+    /// A mode and a rule.
+    fn pick(self, rng: &mut Rng) -> (u64, u64) {
+        if self == Modes::Ported {
+            return (PORTED, EARLIER);
         }
+        let mode = match rng.once_in(PORTED_SHARE) {
+            true => PORTED,
+            false => EXACT,
+        };
+        (mode, choices::rule(rng))
     }
 }
 

@@ -4,7 +4,7 @@
 use crate::frames::COEFFICIENTS;
 use crate::generate::rng::Rng;
 use crate::limits::MAX_COEFFICIENT;
-use crate::modes::reading::opening::refusal;
+use crate::modes::reading::opening::polynomial_fits;
 use crate::modes::terms::Opening;
 use crate::trial::scales::Scale;
 
@@ -136,7 +136,7 @@ pub fn settle(rng: &mut Rng, opening: &mut Opening, mut shape: Shape) {
     for power in (0..COEFFICIENTS).rev() {
         if let Some(coefficients) = moved(shape, by) {
             opening.contact.coefficients = coefficients;
-            if keeps_refused || in_range(opening) {
+            if keeps_refused || polynomial_fits(opening) {
                 return;
             }
         }
@@ -159,10 +159,6 @@ fn moved(mut shape: Shape, by: i128) -> Option<[i64; COEFFICIENTS]> {
         *coefficient = number.try_into().ok()?;
     }
     Some(coefficients)
-}
-
-fn in_range(opening: &Opening) -> bool {
-    refusal(opening) != Some(11)
 }
 
 /// Any coefficients, one or two of them at the largest number that the range
@@ -200,7 +196,7 @@ fn enlarge(rng: &mut Rng, opening: &mut Opening) {
 fn in_range_from(opening: &Opening, power: usize) -> bool {
     let mut upper = opening.clone();
     upper.contact.coefficients[..power].fill(0);
-    in_range(&upper)
+    polynomial_fits(&upper)
 }
 
 /// The largest number in range at this power, by halving; 0 where there is none.
@@ -208,7 +204,7 @@ fn largest(opening: &Opening, power: usize) -> i64 {
     let fits = |number| {
         let mut tried = opening.clone();
         tried.contact.coefficients[power] = number;
-        in_range(&tried)
+        polynomial_fits(&tried)
     };
     let (mut in_range, mut beyond) = (0, MAX_COEFFICIENT + 1);
     while beyond - in_range > 1 {

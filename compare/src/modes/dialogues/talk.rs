@@ -9,9 +9,10 @@ use crate::modes::calls::{Calls, ask};
 use crate::modes::reading::Reading;
 use crate::modes::reading::record::Record;
 use crate::modes::terms::{Call, Dialogue, EXACT, Field, Opening, PORTED};
-use crate::trial::altered;
+use crate::rules;
 use crate::trial::offers::Offers;
 use crate::trial::scales::{self, Scale};
+use crate::trial::{altered, choices};
 
 /// So many bookings fill a list of 64, with some that are not offered.
 const FILLS: usize = 3 * MAX_LISTED;
@@ -105,12 +106,13 @@ impl<'a> Talk<'a> {
     // -----------------------------------------------------------------------
     // Openings
 
-    /// The range rule's limit may be passed; another is tried then.
+    /// The range rule's limit may be passed, or delays may not cover; another is
+    /// tried then.
     fn open(&mut self) {
         let scale = scales::scale(self.rng);
         loop {
-            let mode = self.modes.pick(self.rng);
-            let opening = contacts::opening(self.rng, mode, scale);
+            let picked = self.modes.pick(self.rng);
+            let opening = contacts::opening(self.rng, picked, scale);
             let said = ask(&mut self.reading, &Call::Open(opening.clone()));
             self.dialogue.calls.push(Call::Open(opening));
             if said.number() == 0 {
@@ -128,21 +130,25 @@ impl<'a> Talk<'a> {
         }
     }
 
-    /// A wrong mode over any contact, or a right one over a wrong contact.
+    /// A wrong mode or rule over any contact, or right ones over a wrong contact.
     fn open_wrongly(&mut self) {
-        let has_mode = self.modes == Modes::Ported || !self.rng.once_in(3);
-        let mode = self.modes.pick(self.rng);
+        let has_choices = self.modes == Modes::Ported || !self.rng.once_in(3);
+        let picked = self.modes.pick(self.rng);
         let scale = scales::scale(self.rng);
-        let Opening { mut contact, .. } = contacts::opening(self.rng, mode, scale);
-        if has_mode || self.rng.once_in(2) {
+        let Opening { mut contact, .. } = contacts::opening(self.rng, picked, scale);
+        if has_choices || self.rng.once_in(2) {
             wrong::spoil(self.rng, &mut contact);
         }
-        let mode = match has_mode {
-            true => mode,
-            false => wrong::mode(self.rng),
+        let (mode, rule) = match has_choices {
+            true => picked,
+            false => choices::spoiled(self.rng, picked),
         };
         // Faults may cancel, and then the record is a new one.
-        self.ask(Call::Open(Opening { mode, contact }));
+        self.ask(Call::Open(Opening {
+            mode,
+            rule,
+            contact,
+        }));
     }
 
     /// Up to 64 listed segments, and on to the refusal of a 65th.
@@ -191,18 +197,21 @@ impl<'a> Talk<'a> {
     // -----------------------------------------------------------------------
     // Numbers written into records
 
-    /// A mode that is none.
+    /// A mode or a rule that is none.
     fn damage(&mut self) {
-        match self.modes {
-            Modes::Ported => self.dry_run(),
-            Modes::Both => {
-                let mode = wrong::mode(self.rng);
-                self.write(Field::Mode(mode));
-            }
+        if self.modes == Modes::Ported {
+            return self.dry_run();
         }
+        let none = choices::none(self.rng);
+        let field = match self.rng.once_in(2) {
+            true => Field::Mode(none),
+            false => Field::Rule(none),
+        };
+        self.write(field);
     }
 
-    /// The other mode, or another number of the polynomial.
+    /// The other mode or rule, or another number of the polynomial. Delays that
+    /// do not cover are no list of rule 2.
     fn change(&mut self) {
         if self.modes == Modes::Ported {
             return self.dry_run();
@@ -213,9 +222,10 @@ impl<'a> Talk<'a> {
             false => EXACT,
         };
         let opening = opening.clone();
-        let field = match self.rng.once_in(2) {
-            true => Field::Mode(other),
-            false => wrong::number(self.rng, &opening),
+        let field = match self.rng.below(6) {
+            0..2 => Field::Mode(other),
+            2..4 => Field::Rule(rules::other(opening.rule)),
+            _ => wrong::number(self.rng, &opening),
         };
         self.write(field);
     }

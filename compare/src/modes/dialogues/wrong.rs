@@ -6,26 +6,6 @@ use crate::generate::rng::Rng;
 use crate::limits::{MAX_DATE, MAX_DELAY, MAX_DELAYS, MAX_LENGTH};
 use crate::modes::terms::{Field, Opening};
 
-/// Modes that are none; some look like 1 or 2 in fewer bits.
-const NONE: [u64; 12] = [
-    0,
-    3,
-    4,
-    127,
-    255,
-    256,
-    257,
-    258,
-    (1 << 32) + 1,
-    (1 << 32) + 2,
-    u64::MAX - 1,
-    u64::MAX,
-];
-
-pub fn mode(rng: &mut Rng) -> u64 {
-    rng.pick(&NONE)
-}
-
 /// One to three faults, some of which cancel; or nothing but chance.
 pub fn spoil(rng: &mut Rng, contact: &mut PolyOpening) {
     if rng.once_in(12) {
@@ -127,6 +107,7 @@ pub fn old(field: Field, opening: &Opening) -> Field {
     let contact = &opening.contact;
     match field {
         Field::Mode(_) => Field::Mode(opening.mode),
+        Field::Rule(_) => Field::Rule(opening.rule),
         Field::Offset(_) => Field::Offset(contact.offset),
         Field::Coefficient(power, _) => Field::Coefficient(power, contact.coefficients[power]),
     }

@@ -1,5 +1,5 @@
-//! Document 01's polynomial manager with R-6's mode, read from the documents'
-//! words alone.
+//! Document 01's polynomial manager with R-6's mode and R-4's rule, read from the
+//! documents' words alone.
 
 pub mod capacity;
 pub mod fraction;

@@ -1,26 +1,32 @@
-//! Which openings are refused, and with which number: 2 for a mode that is none
-//! before all else, then document 01's 3, 5, 11.
+//! Which openings are refused, and with which number: 2 for a mode or a rule that
+//! is none before all else, then document 01's 3, 5, 11.
 
 use super::fraction::Fraction;
 use crate::frames::{PolyOpening, Span, Window};
 use crate::limits::{MAX_CAPACITY, MAX_COEFFICIENT, MAX_DATE, MAX_DELAY, MAX_DELAYS, MAX_LENGTH};
 use crate::modes::terms::{EXACT, Opening, is_mode};
+use crate::rules::cover::delays_cover;
+use crate::rules::{LATER, is_rule};
 
 pub fn refusal(opening: &Opening) -> Option<u8> {
     let contact = &opening.contact;
-    if !is_mode(opening.mode) {
+    if !is_mode(opening.mode) || !is_rule(opening.rule) {
         return Some(2);
     }
     if !window_in_limits(contact.window) {
         return Some(3);
     }
-    if !delays_in_limits(&contact.delays) {
+    if !delays_fit(opening) {
         return Some(5);
     }
-    if !numbers_in_limits(contact) || !steps_in_range(opening) {
+    if !polynomial_fits(opening) {
         return Some(11);
     }
     None
+}
+
+pub fn polynomial_fits(opening: &Opening) -> bool {
+    numbers_in_limits(&opening.contact) && steps_in_range(opening)
 }
 
 fn is_date(number: i64) -> bool {
@@ -30,6 +36,15 @@ fn is_date(number: i64) -> bool {
 fn window_in_limits(window: Window) -> bool {
     let Window { start, end } = window;
     is_date(start) && is_date(end) && start < end && end - start <= MAX_LENGTH
+}
+
+/// Under rule 2 the list "must cover its window as the others' do, else 5".
+fn delays_fit(opening: &Opening) -> bool {
+    let contact = &opening.contact;
+    match opening.rule == LATER {
+        true => delays_cover(&contact.delays, contact.window),
+        false => delays_in_limits(&contact.delays),
+    }
 }
 
 /// "polynomial manager: only a count above 16 or a number outside its limits":

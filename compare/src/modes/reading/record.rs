@@ -7,6 +7,7 @@ use super::search::{self, Stretch};
 use crate::frames::{Dates, Request, Span, Window};
 use crate::limits::{MAX_DATE, MAX_LISTED, MAX_PRIORITY, MAX_SIZE};
 use crate::modes::terms::Opening;
+use crate::rules::lookup::Delays;
 
 /// A send, and where in the list it begins.
 #[derive(Clone, Copy, Debug, PartialEq, Eq)]
@@ -16,7 +17,7 @@ pub struct Send {
     pub end: i64,
 }
 
-/// The record keeps what it was opened with, its mode first.
+/// The record keeps what it was opened with, its mode and its rule first.
 #[derive(Clone, Debug)]
 pub struct Record {
     pub opening: Opening,
@@ -63,7 +64,8 @@ impl Record {
         Ok(())
     }
 
-    /// "all that the opening tests holds", under the mode that the record names.
+    /// "all that the opening tests holds", under the mode and the rule that the
+    /// record names.
     /// What is listed comes from bookings, and keeps its rules.
     pub fn test(&self) -> Result<(), u8> {
         match opening::refusal(&self.opening) {
@@ -112,23 +114,13 @@ impl Record {
         list
     }
 
-    /// Delay: "the first segment whose end is not before the date; the end's
-    /// lookup goes on from the start's". None is 8.
     pub fn dates(&self, send: Send) -> Result<Dates, u8> {
-        let delays = &self.opening.contact.delays;
-        let found = |place: usize, date| {
-            let rest = place..delays.len();
-            rest.into_iter().find(|place| delays[*place].end >= date)
+        let delays = Delays {
+            rule: self.opening.rule,
+            window: self.window(),
+            list: &self.opening.contact.delays,
         };
-        let first = found(0, send.start).ok_or(8)?;
-        let second = found(first, send.end).ok_or(8)?;
-        let received = |date, place: usize| date + delays[place].value;
-        Ok(Dates([
-            send.start,
-            send.end,
-            received(send.start, first),
-            received(send.end, second),
-        ]))
+        delays.dates(send.start, send.end)
     }
 }
 
