@@ -19,7 +19,7 @@ fn numbers() -> BTreeSet<(u8, bool, u8)> {
             assert_eq!(number, 0xff);
             continue;
         };
-        let is_opening = frame.kind() < kind::DRY_RUN;
+        let is_opening = frame.is_opening();
         if is_opening && number == 0 {
             open = frame.kind();
         }

@@ -2,12 +2,23 @@
 //! and books what is beside them, late, or for another bundle.
 
 use super::altered;
-use crate::frames::{Dates, Request};
+use crate::frames::{Dates, Request, Span, Window};
 use crate::generate::rng::Rng;
 
 /// So many requests are looked at before one is booked, as most of what is asked
 /// at random is not offered.
 const TRIES: usize = 4;
+
+/// A date where a delay begins or ends; without delays the window's end.
+pub fn boundary(rng: &mut Rng, delays: &[Span], window: Window) -> i64 {
+    match delays.is_empty() {
+        true => window.end,
+        false => {
+            let delay = rng.pick(delays);
+            rng.pick(&[delay.start, delay.end])
+        }
+    }
+}
 
 /// A dialogue that is made along with the reading.
 pub trait Offers {

@@ -2,11 +2,11 @@
 
 use oracle::editions::calls::Calls;
 use oracle::editions::reading::Reading;
-use oracle::editions::terms::{FIRST, Manager, Opening, SECOND};
+use oracle::editions::terms::{FIRST, Field, Manager, Opening, SECOND};
 use oracle::frames::{Dates, RatedOpening};
 use oracle::stated::{contact_a, request, spans_of};
 
-use super::{listed, opening_a, rated_a};
+use super::{listed, opening_a, opening_of, rated_a};
 
 fn opened(manager: Manager, opening: Opening) -> Reading {
     let mut reading = Reading::of(manager);
@@ -139,7 +139,7 @@ fn case_7_delays() {
     };
     for (edition, dates) in [(FIRST, [3, 4, 13, 14]), (SECOND, [3, 5, 13, 7])] {
         let contact = contact.clone();
-        let mut reading = opened(Manager::Free, Opening { edition, contact });
+        let mut reading = opened(Manager::Free, opening_of(edition, contact));
         assert_eq!(reading.dry_run(request(4, 10, 0)), Ok(Dates([4, 5, 14, 7])));
         assert_eq!(reading.dry_run(request(3, 19, 0)), Ok(Dates(dates)));
     }
@@ -250,11 +250,11 @@ fn an_edition_that_is_none_is_2_before_all_else() {
         for edition in [0, 3, 255, 257, u64::MAX] {
             let contact = backward.clone();
             assert_eq!(reading.open(&opening_a(edition)), Err(2));
-            assert_eq!(reading.open(&Opening { edition, contact }), Err(2));
+            assert_eq!(reading.open(&opening_of(edition, contact)), Err(2));
         }
         for edition in [FIRST, SECOND] {
             let contact = backward.clone();
-            assert_eq!(reading.open(&Opening { edition, contact }), Err(3));
+            assert_eq!(reading.open(&opening_of(edition, contact)), Err(3));
         }
         assert_eq!(reading.list(), Err(1));
     }
@@ -268,7 +268,7 @@ fn the_other_refusals_keep_their_order() {
         contact.delays[0].value = -1;
         let refused = |contact: &RatedOpening| {
             let contact = contact.clone();
-            Reading::of(Manager::Free).open(&Opening { edition, contact })
+            Reading::of(Manager::Free).open(&opening_of(edition, contact))
         };
         assert_eq!(refused(&contact), Err(5));
         contact.rates[0].value = (1 << 38) + 1;
@@ -285,13 +285,13 @@ fn a_record_whose_edition_is_none_is_1() {
     let mut reading = free_a(SECOND);
     let asked = request(3, 15, 0);
     let dates = reading.dry_run(asked).expect("an offer");
-    assert_eq!(reading.name_edition(3), Err(1));
+    assert_eq!(reading.write(Field::Edition(3)), Err(1));
     assert_eq!(reading.dry_run(asked), Err(1));
     assert_eq!(reading.dry_run(request(3, 0, 0)), Err(1));
     assert_eq!(reading.book(asked, dates), Err(1));
     assert_eq!(reading.list(), Err(1));
     assert_eq!(reading.room(), Err(1));
-    assert_eq!(reading.name_edition(SECOND), Ok(()));
+    assert_eq!(reading.write(Field::Edition(SECOND)), Ok(()));
     assert_eq!(reading.book(asked, dates), Ok(()));
     assert_eq!(list(&mut reading), [(0, 3, 30), (5, 10, 50)]);
 }
@@ -301,7 +301,7 @@ fn a_record_whose_edition_is_none_is_1() {
 fn a_record_of_the_other_edition() {
     let mut reading = free_a(FIRST);
     book(&mut reading, 0, 15);
-    assert_eq!(reading.name_edition(SECOND), Ok(()));
+    assert_eq!(reading.write(Field::Edition(SECOND)), Ok(()));
     assert_eq!(list(&mut reading), [(1, 10, 85)]);
     assert_eq!(send(&mut reading, 0, 85), Ok((1, 10)));
     assert_eq!(send(&mut reading, 0, 86), Err(7));
@@ -329,11 +329,7 @@ fn a_65th_segment_is_10() {
         rates: spans_of([(0, 200, 10)]),
         delays: spans_of([(0, 200, 0)]),
     };
-    let opening = Opening {
-        edition: SECOND,
-        contact,
-    };
-    let mut reading = opened(Manager::Free, opening);
+    let mut reading = opened(Manager::Free, opening_of(SECOND, contact));
     for time in 1..64 {
         book(&mut reading, 2 * time, 7);
     }

@@ -1,8 +1,11 @@
-//! Document 02's R-5 read from the documents' words: by hand, against the
-//! original under edition 1, and held against programs that are wrong.
+//! Document 02's R-5 read from the documents' words, R-4's rules with it: by hand,
+//! against the original under edition 1 and rule 1, and held against programs that
+//! are wrong.
 
 mod by_hand;
 mod itself;
+#[path = "../lookups/mod.rs"]
+mod lookups;
 mod original;
 mod program;
 mod sums;
@@ -11,25 +14,30 @@ mod wrong;
 
 use oracle::editions::terms::Opening;
 use oracle::frames::{RatedOpening, Span};
+use oracle::rules::EARLIER;
 use oracle::stated::{contact_a, spans_of};
+
+/// Any contact in this edition, under rule 1.
+fn opening_of(edition: u64, contact: RatedOpening) -> Opening {
+    Opening {
+        edition,
+        rule: EARLIER,
+        contact,
+    }
+}
 
 /// Contact A of document 01, in this edition.
 fn opening_a(edition: u64) -> Opening {
-    Opening {
-        edition,
-        contact: contact_a(),
-    }
+    opening_of(edition, contact_a())
 }
 
 /// Contact A with other rates.
 fn rated_a<const N: usize>(edition: u64, rates: [(i64, i64, i64); N]) -> Opening {
-    Opening {
-        edition,
-        contact: RatedOpening {
-            rates: spans_of(rates),
-            ..contact_a()
-        },
-    }
+    let contact = RatedOpening {
+        rates: spans_of(rates),
+        ..contact_a()
+    };
+    opening_of(edition, contact)
 }
 
 fn listed(spans: &[Span]) -> Vec<(i64, i64, i64)> {

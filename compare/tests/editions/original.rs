@@ -1,12 +1,13 @@
-//! The reading under edition 1 is the original.
+//! The reading under edition 1 and rule 1 is the original.
 
 use oracle::Oracle;
 use oracle::editions::calls::Calls;
 use oracle::editions::dialogues::Editions;
-use oracle::editions::terms::{FIRST, Manager, Opening};
+use oracle::editions::terms::{FIRST, Field, Manager, Opening};
 use oracle::editions::{Settings, check};
 use oracle::frames::{Content, Dates, Frame, Request, Span};
 use oracle::refusal::Refusal;
+use oracle::rules::EARLIER;
 
 /// `EDITION_CALLS` asks for more.
 const CALLS: usize = 120_000;
@@ -18,7 +19,8 @@ fn calls_asked() -> usize {
     }
 }
 
-/// The original behind the calls; it has no other edition.
+/// The original behind the calls, opened with its rule stated; it has no other
+/// edition or rule.
 struct Original {
     manager: Manager,
     oracle: Oracle,
@@ -39,13 +41,13 @@ impl Original {
 
 impl Calls for Original {
     fn open(&mut self, opening: &Opening) -> Result<(), u8> {
-        assert_eq!(opening.edition, FIRST);
+        assert_eq!((opening.edition, opening.rule), (FIRST, EARLIER));
         let contact = opening.contact.clone();
         let frame = match self.manager {
             Manager::Free => Frame::OpenFree(contact),
             Manager::Priority => Frame::OpenPriority(contact),
         };
-        self.answer(&frame).map(drop)
+        self.answer(&frame.ruled(EARLIER as u8)).map(drop)
     }
 
     fn dry_run(&mut self, request: Request) -> Result<Dates, u8> {
@@ -70,13 +72,13 @@ impl Calls for Original {
         }
     }
 
-    fn name_edition(&mut self, edition: u64) -> Result<(), u8> {
-        panic!("the original has no edition {edition}");
+    fn write(&mut self, field: Field) -> Result<(), u8> {
+        panic!("nothing is written into the original's record: {field}");
     }
 }
 
 #[test]
-fn edition_1_is_the_original() {
+fn edition_1_and_rule_1_are_the_original() {
     let settings = Settings {
         calls: calls_asked(),
         seed: 51,
@@ -88,4 +90,5 @@ fn edition_1_is_the_original() {
         panic!("{found}");
     }
     assert!(outcome.figures.calls_of(FIRST) >= settings.calls);
+    assert!(outcome.figures.calls_under(EARLIER) >= settings.calls);
 }

@@ -30,7 +30,7 @@ fn a_difference_is_told_and_makes_the_status_1() {
     assert_eq!(ended.status, 1);
     let lines: Vec<&str> = ended.output.lines().collect();
     assert!(lines[0].starts_with("a difference; the calls of the "));
-    assert!(lines[1].starts_with("  open edition 2, window ["));
+    assert!(lines[1].starts_with("  open edition 2, rule "));
     for sign in ["\nexpected 0", "\nanswered "] {
         assert!(ended.output.contains(sign), "{}", ended.output);
     }

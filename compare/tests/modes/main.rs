@@ -1,9 +1,12 @@
-//! Document 02's R-6 read from the documents' words: by hand, against the
-//! original in mode 1, and held against programs that are wrong.
+//! Document 02's R-6 read from the documents' words, R-4's rules with it: by hand,
+//! against the original in mode 1 and under rule 1, and held against programs that
+//! are wrong.
 
 mod by_hand;
 mod claims;
 mod itself;
+#[path = "../lookups/mod.rs"]
+mod lookups;
 mod original;
 mod program;
 mod refused;
@@ -14,12 +17,14 @@ use oracle::frames::{PolyOpening, Window};
 use oracle::modes::calls::Calls;
 use oracle::modes::reading::Reading;
 use oracle::modes::terms::Opening;
+use oracle::rules::EARLIER;
 use oracle::stated::poly_a;
 
-/// Case 10's contact with these coefficients, in this mode.
+/// Case 10's contact with these coefficients, in this mode and under rule 1.
 fn opening_a(mode: u64, coefficients: [i64; 4]) -> Opening {
     Opening {
         mode,
+        rule: EARLIER,
         contact: PolyOpening {
             coefficients,
             ..poly_a()

@@ -1,4 +1,4 @@
-//! The reading in mode 1 is the original.
+//! The reading in mode 1 and under rule 1 is the original.
 
 use oracle::Oracle;
 use oracle::frames::{Content, Dates, Frame, Request, Span};
@@ -7,6 +7,7 @@ use oracle::modes::dialogues::Modes;
 use oracle::modes::terms::{Field, Opening, PORTED};
 use oracle::modes::{Settings, check};
 use oracle::refusal::Refusal;
+use oracle::rules::EARLIER;
 
 /// `MODE_CALLS` asks for more.
 const CALLS: usize = 250_000;
@@ -18,7 +19,8 @@ fn calls_asked() -> usize {
     }
 }
 
-/// The original behind the calls; it has no other mode.
+/// The original behind the calls, opened with its rule stated; it has no other
+/// mode or rule.
 #[derive(Default)]
 struct Original(Oracle);
 
@@ -30,9 +32,9 @@ impl Original {
 
 impl Calls for Original {
     fn open(&mut self, opening: &Opening) -> Result<(), u8> {
-        assert_eq!(opening.mode, PORTED);
+        assert_eq!((opening.mode, opening.rule), (PORTED, EARLIER));
         let frame = Frame::OpenPoly(opening.contact.clone());
-        self.answer(&frame).map(drop)
+        self.answer(&frame.ruled(EARLIER as u8)).map(drop)
     }
 
     fn dry_run(&mut self, request: Request) -> Result<Dates, u8> {
@@ -56,7 +58,7 @@ impl Calls for Original {
 }
 
 #[test]
-fn mode_1_is_the_original() {
+fn mode_1_and_rule_1_are_the_original() {
     let settings = Settings {
         calls: calls_asked(),
         seed: 61,
@@ -68,4 +70,5 @@ fn mode_1_is_the_original() {
         panic!("{found}");
     }
     assert!(outcome.figures.calls_of(PORTED) >= settings.calls);
+    assert!(outcome.figures.calls_under(EARLIER) >= settings.calls);
 }

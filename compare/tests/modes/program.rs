@@ -38,11 +38,7 @@ fn a_difference_is_told_and_makes_the_status_1() {
         lines[0],
         "a difference; the calls of the polynomial manager:"
     );
-    assert!(
-        lines[1].starts_with("  open mode 2, window ["),
-        "{}",
-        lines[1]
-    );
+    assert!(lines[1].starts_with("  open mode 2, rule "), "{}", lines[1]);
     // What remains of a long dialogue is an opening and a call.
     assert!(lines[3].starts_with("expected "), "{}", ended.output);
     assert!(lines[4].starts_with("answered "), "{}", ended.output);

@@ -4,7 +4,7 @@ use oracle::frames::{Dates, Window};
 use oracle::modes::calls::Calls;
 use oracle::modes::reading::Reading;
 use oracle::modes::terms::{EXACT, Field, Opening, PORTED};
-use oracle::stated::{poly_a, request, spans_of, two_to};
+use oracle::stated::{request, spans_of, two_to};
 
 use super::{one_tick, opened, opening_a};
 
@@ -14,16 +14,17 @@ fn refused(opening: &Opening) -> Result<(), u8> {
 
 #[test]
 fn a_mode_that_is_none_is_2_before_all_else() {
-    let mut backward = poly_a();
-    backward.window.end = backward.window.start;
+    let backward = |mode| {
+        let mut opening = opening_a(mode, [10, 0, 0, 0]);
+        opening.contact.window.end = opening.contact.window.start;
+        opening
+    };
     for mode in [0, 3, 255, 257, u64::MAX] {
-        let contact = backward.clone();
-        assert_eq!(refused(&Opening { mode, contact }), Err(2));
+        assert_eq!(refused(&backward(mode)), Err(2));
         assert_eq!(refused(&opening_a(mode, [10, 0, 0, 0])), Err(2));
     }
     for mode in [PORTED, EXACT] {
-        let contact = backward.clone();
-        assert_eq!(refused(&Opening { mode, contact }), Err(3));
+        assert_eq!(refused(&backward(mode)), Err(3));
     }
 }
 

@@ -10,6 +10,7 @@ use oracle::modes::reading::fraction::Fraction;
 use oracle::modes::reading::opening::refusal;
 use oracle::modes::terms::{Call, EXACT, Opening};
 use oracle::modes::ticks::Ticks;
+use oracle::rules::EARLIER;
 
 const POLYNOMIALS: usize = 3_000;
 
@@ -25,6 +26,7 @@ fn random(rng: &mut Rng, most: i64) -> Opening {
     let delays: Vec<Span> = Vec::new();
     Opening {
         mode: EXACT,
+        rule: EARLIER,
         contact: PolyOpening {
             window,
             offset: near.min(1 << 40),

@@ -47,7 +47,7 @@ fn read_along(kind: Kind) -> usize {
         let Some(frame) = frames::decode(line) else {
             continue;
         };
-        let is_opening = frame.kind() < frames::kind::DRY_RUN;
+        let is_opening = frame.is_opening();
         if is_opening && expected == b"00\n" {
             record = open(&frame);
         }

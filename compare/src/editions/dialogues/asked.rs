@@ -7,6 +7,7 @@ use crate::frames::{Load, Request, Span, Window};
 use crate::generate::exhaustive;
 use crate::generate::rng::Rng;
 use crate::limits::{MAX_DATE, MAX_PRIORITY, MAX_SIZE};
+use crate::trial::offers::boundary;
 
 const FEW_TICKS: i64 = 5;
 const LITTLE: i64 = 12;
@@ -62,15 +63,17 @@ fn listed(rng: &mut Rng, record: &Record) -> Span {
     rng.pick(&record.list)
 }
 
-/// Before, in, at the end of and after the window, and about the list's edges.
+/// Before, in, at the end of and after the window, where a delay changes, and
+/// about the list's edges.
 fn time(rng: &mut Rng, record: &Record) -> i64 {
     let Window { start, end } = record.window;
-    let time = match rng.below(16) {
+    let time = match rng.below(20) {
         0 => rng.pick(&[0, MAX_DATE - 1, MAX_DATE]),
         1 => end + rng.between(-2, 1),
         2..5 => start + rng.between(-2, 1),
         5..8 => listed(rng, record).start + rng.between(-1, 1),
         8..10 => listed(rng, record).end + rng.between(-1, 1),
+        10..14 => boundary(rng, &record.delays, record.window),
         _ => rng.between(start, end),
     };
     time.clamp(0, MAX_DATE)
@@ -80,7 +83,7 @@ fn time(rng: &mut Rng, record: &Record) -> i64 {
 fn size(rng: &mut Rng, record: &Record, time: i64) -> i64 {
     let Window { start, end } = record.window;
     let total = carried(record, start, end);
-    let size = match rng.below(20) {
+    let size = match rng.below(24) {
         0..2 => 1,
         2 => total + rng.between(-1, 2),
         3 => rng.between(1, total + 2),
@@ -89,6 +92,10 @@ fn size(rng: &mut Rng, record: &Record, time: i64) -> i64 {
         8..11 => listed_capacity(rng, record) + rng.between(-1, 2),
         11 => listed(rng, record).value + rng.between(-1, 1),
         12..16 => few_ticks(rng, record, time) + rng.between(-1, 1),
+        16..20 => {
+            let to = boundary(rng, &record.delays, record.window);
+            carried(record, time, to)
+        }
         _ => {
             let from = rng.between(start, end - 1);
             few_ticks(rng, record, from) + rng.between(-1, 1)

@@ -124,7 +124,7 @@ impl Record {
         self.looked_up().dates(send.start, send.end)
     }
 
-    fn looked_up(&self) -> Delays<'_> {
+    pub fn looked_up(&self) -> Delays<'_> {
         Delays {
             rule: self.rule,
             window: self.window,

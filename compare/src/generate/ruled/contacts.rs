@@ -173,9 +173,14 @@ pub fn with_gap(rng: &mut Rng, manager: Manager) -> Ruled {
         Ruled::Free(contact) | Ruled::Priority(contact) => (contact.window, &mut contact.delays),
         Ruled::Poly(contact) => (contact.window, &mut contact.delays),
     };
-    *list = delays(rng, window);
-    loosen(rng, list, window);
+    *list = nearly_covering(rng, window);
     opening
+}
+
+pub fn nearly_covering(rng: &mut Rng, window: Window) -> Vec<Span> {
+    let mut list = delays(rng, window);
+    loosen(rng, &mut list, window);
+    list
 }
 
 fn loosen(rng: &mut Rng, list: &mut Vec<Span>, window: Window) {

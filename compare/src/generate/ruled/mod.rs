@@ -1,7 +1,7 @@
 //! Random dialogues with frames 21 to 23 (document 02, R-4): delays that change
 //! often, asked for and sent up to where they change, under both rules.
 
-mod contacts;
+pub mod contacts;
 mod lines;
 
 use super::dialogues::{Manager, Scene, Talk};

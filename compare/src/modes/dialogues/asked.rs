@@ -6,6 +6,7 @@ use crate::generate::exhaustive;
 use crate::generate::rng::Rng;
 use crate::limits::{MAX_DATE, MAX_PRIORITY, MAX_SIZE};
 use crate::modes::reading::record::Record;
+use crate::trial::offers::boundary;
 
 const FEW_TICKS: i64 = 5;
 const LITTLE: i64 = 12;
@@ -56,15 +57,17 @@ fn listed(rng: &mut Rng, record: &Record) -> Span {
     rng.pick(&record.list)
 }
 
-/// Before, in, at the end of and after the window, and about the list's edges.
+/// Before, in, at the end of and after the window, where a delay changes, and
+/// about the list's edges.
 fn time(rng: &mut Rng, record: &Record) -> i64 {
     let Window { start, end } = record.window();
-    let time = match rng.below(16) {
+    let time = match rng.below(20) {
         0 => rng.pick(&[0, MAX_DATE - 1, MAX_DATE]),
         1 => end + rng.between(-2, 1),
         2..6 => start + rng.between(-2, 1),
         6..8 => listed(rng, record).start + rng.between(-1, 1),
         8..10 => listed(rng, record).end + rng.between(-1, 1),
+        10..14 => delay_boundary(rng, record),
         _ => rng.between(start, end),
     };
     time.clamp(0, MAX_DATE)
@@ -74,14 +77,18 @@ fn time(rng: &mut Rng, record: &Record) -> i64 {
 fn size(rng: &mut Rng, record: &Record, time: i64) -> i64 {
     let Window { start, end } = record.window();
     let total = carried(record, start, end);
-    let size = match rng.below(20) {
+    let size = match rng.below(28) {
         0..2 => 1,
         2 => total + rng.between(-1, 2),
         3 => rng.any_scale(MAX_SIZE),
         4 => rng.between(1, total.clamp(1, MAX_SIZE)),
         5..8 => to_listed_end(record, time) + rng.between(-1, 1),
-        8..13 => to_middle(rng, record, time) + rng.pick(&[0, 0, 0, -1, 1]),
-        13..17 => few_ticks(rng, record, time) + rng.between(-1, 1),
+        8..16 => to_middle(rng, record, time) + rng.pick(&[0, 0, 0, -1, 1]),
+        16..20 => few_ticks(rng, record, time) + rng.between(-1, 1),
+        20..24 => {
+            let to = delay_boundary(rng, record);
+            carried(record, time, to)
+        }
         _ => {
             let from = listed(rng, record).start;
             few_ticks(rng, record, from) + rng.between(-1, 1)
@@ -91,6 +98,10 @@ fn size(rng: &mut Rng, record: &Record, time: i64) -> i64 {
         true => MAX_SIZE - rng.between(0, 1),
         false => size.clamp(1, MAX_SIZE),
     }
+}
+
+fn delay_boundary(rng: &mut Rng, record: &Record) -> i64 {
+    boundary(rng, &record.opening.contact.delays, record.window())
 }
 
 /// The first segment that is not over by the asked time, from then on.

@@ -4,6 +4,7 @@ use super::shapes;
 use crate::frames::{COEFFICIENTS, PolyOpening, Span, Window};
 use crate::generate::openings::{delay, loose_delays, placed, tiled};
 use crate::generate::rng::Rng;
+use crate::generate::ruled::contacts::nearly_covering;
 use crate::limits::{MAX_DATE, MAX_DELAYS};
 use crate::modes::terms::Opening;
 use crate::trial::scales::{Scale, length};
@@ -71,9 +72,10 @@ fn window(rng: &mut Rng, scale: Scale) -> Window {
 
 /// Mostly such as cover the window: where nothing is found, nothing is booked.
 fn delays(rng: &mut Rng, window: Window) -> Vec<Span> {
-    match rng.once_in(3) {
-        true => loose_delays(rng, window),
-        false => tiled(rng, window, MAX_DELAYS, |rng, _| delay(rng)),
+    match rng.below(6) {
+        0 => loose_delays(rng, window),
+        1 => nearly_covering(rng, window),
+        _ => tiled(rng, window, MAX_DELAYS, |rng, _| delay(rng)),
     }
 }
 

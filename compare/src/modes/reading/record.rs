@@ -115,12 +115,15 @@ impl Record {
     }
 
     pub fn dates(&self, send: Send) -> Result<Dates, u8> {
-        let delays = Delays {
+        self.looked_up().dates(send.start, send.end)
+    }
+
+    pub fn looked_up(&self) -> Delays<'_> {
+        Delays {
             rule: self.opening.rule,
             window: self.window(),
             list: &self.opening.contact.delays,
-        };
-        delays.dates(send.start, send.end)
+        }
     }
 }
 

@@ -1,5 +1,7 @@
 //! The flaws, one program each.
 
+use crate::lookups::Lookup;
+
 #[derive(Clone, Copy, Debug, PartialEq, Eq)]
 pub enum Flaw {
     None,
@@ -70,10 +72,31 @@ pub enum Flaw {
     BundleFirst,
     /// A booking leaves a record of edition 1.
     Forgets,
+    // Rules
+    /// Delays are looked up wrongly.
+    Looks(Lookup),
+    /// The priority manager has rule 1 alone.
+    PriorityEarlier,
+    /// Edition 2 has rule 1 alone.
+    SecondEarlier,
+    /// Rule 3 opens as rule 2.
+    RuleThirdOpens,
+    /// Rule 0 opens as rule 1.
+    RuleZeroOpens,
+    /// Only the low byte of the rule is read.
+    RuleLowByte,
+    /// A wrong rule is 2 after 3.
+    RuleAfterThree,
+    /// A record whose rule is none is taken as one of rule 1.
+    DamagedRuleIsTaken,
+    /// It is refused with 2.
+    DamagedRuleIsTwo,
+    /// A booking leaves a record of rule 1.
+    ForgetsRule,
 }
 
 impl Flaw {
-    pub const ALL: [Flaw; 32] = [
+    pub const ALL: [Flaw; 41] = [
         Flaw::RoundsDown,
         Flaw::OffersRoundDown,
         Flaw::FirstDoesNotRound,
@@ -106,5 +129,14 @@ impl Flaw {
         Flaw::DamagedIsTwo,
         Flaw::BundleFirst,
         Flaw::Forgets,
+        Flaw::PriorityEarlier,
+        Flaw::SecondEarlier,
+        Flaw::RuleThirdOpens,
+        Flaw::RuleZeroOpens,
+        Flaw::RuleLowByte,
+        Flaw::RuleAfterThree,
+        Flaw::DamagedRuleIsTaken,
+        Flaw::DamagedRuleIsTwo,
+        Flaw::ForgetsRule,
     ];
 }

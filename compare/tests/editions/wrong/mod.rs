@@ -8,11 +8,12 @@ use oracle::editions::calls::Calls;
 use oracle::editions::dialogues::Editions;
 use oracle::editions::reading::Reading;
 use oracle::editions::reading::record::{Record, Send};
-use oracle::editions::terms::{Manager, Opening};
+use oracle::editions::terms::{Field, Manager, Opening};
 use oracle::editions::{Settings, check};
 use oracle::frames::{Dates, Request, Span};
 use oracle::trial::Counted;
 
+use crate::lookups::Lookup;
 pub use flaw::Flaw;
 
 /// The reading with one flaw.
@@ -81,20 +82,23 @@ impl Calls for Wrong {
 
     fn list(&mut self) -> Result<Vec<Span>, u8> {
         let record = records::read(self.flaw, self.record()?);
-        records::test_edition(self.flaw, &record)?;
+        records::test_choices(self.flaw, &record)?;
         Ok(record.list)
     }
 
     fn room(&mut self) -> Result<i64, u8> {
         let record = records::read(self.flaw, self.record()?);
-        records::test_edition(self.flaw, &record)?;
+        records::test_choices(self.flaw, &record)?;
         Ok(records::room(self.flaw, &record, self.sizes))
     }
 
-    fn name_edition(&mut self, edition: u64) -> Result<(), u8> {
+    fn write(&mut self, field: Field) -> Result<(), u8> {
         let record = self.reading.record.as_mut().ok_or(1)?;
-        record.edition = edition;
-        records::test_edition(self.flaw, &records::read(self.flaw, record))
+        match field {
+            Field::Edition(edition) => record.edition = edition,
+            Field::Rule(rule) => record.rule = rule,
+        }
+        records::test_choices(self.flaw, &records::read(self.flaw, record))
     }
 }
 
@@ -109,13 +113,14 @@ fn no_flaw_is_not_seen() {
 
 #[test]
 fn each_flaw_is_seen() {
-    for flaw in Flaw::ALL {
+    let lookups = Lookup::ALL.map(Flaw::Looks);
+    for flaw in Flaw::ALL.iter().chain(&lookups) {
         for seed in [1, 2, 3] {
-            let found = seen(flaw, seed);
+            let found = seen(*flaw, seed);
             assert!(found.is_some(), "{flaw:?} is not seen");
         }
     }
-    println!("{} flaws seen", Flaw::ALL.len());
+    println!("{} flaws seen", Flaw::ALL.len() + lookups.len());
 }
 
 /// What is printed of a flaw, if it is seen.

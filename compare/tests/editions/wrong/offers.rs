@@ -76,6 +76,9 @@ fn free_end(flaw: Flaw, record: &Record, span: Span, start: i64, size: i64) -> O
 }
 
 pub fn dates(flaw: Flaw, record: &Record, send: Send) -> Result<Dates, u8> {
+    if let Flaw::Looks(lookup) = flaw {
+        return lookup.dates(record.looked_up(), send.start, send.end);
+    }
     let Dates(mut dates) = record.dates(send)?;
     if flaw == Flaw::EarlierDelay && send.end > send.start {
         let end = send.end - 1;

@@ -4,6 +4,7 @@ use oracle::editions::reading::opening::refusal;
 use oracle::editions::reading::record::{Record, Send};
 use oracle::editions::terms::{FIRST, Manager, Opening, SECOND, is_edition};
 use oracle::frames::{Load, Request, Span};
+use oracle::rules::{EARLIER, LATER, is_rule};
 
 use super::flaw::Flaw;
 
@@ -16,19 +17,31 @@ pub fn opening(flaw: Flaw, opening: &Opening, manager: Manager) -> Result<Openin
         (Flaw::PriorityTakesAny, edition) if manager == Manager::Priority => edition.clamp(1, 2),
         (_, edition) => edition,
     };
+    let rule = match (flaw, opening.rule) {
+        (Flaw::RuleThirdOpens, 3) => LATER,
+        (Flaw::RuleZeroOpens, 0) => EARLIER,
+        (Flaw::RuleLowByte, rule) => rule & 0xff,
+        (_, rule) => rule,
+    };
     let contact = opening.contact.clone();
-    let read = Opening { edition, contact };
-    match (flaw, without_edition(&read)) {
-        (Flaw::TwoAfterThree, Some(3)) => Err(3),
+    let read = Opening {
+        edition,
+        rule,
+        contact,
+    };
+    match (flaw, without_choices(&read)) {
+        (Flaw::TwoAfterThree, Some(3)) if is_rule(rule) => Err(3),
+        (Flaw::RuleAfterThree, Some(3)) if is_edition(edition) => Err(3),
         (Flaw::TwoLast, Some(number)) => Err(number),
         _ => Ok(read),
     }
 }
 
-/// What is wrong with an opening but for its edition.
-fn without_edition(opening: &Opening) -> Option<u8> {
+/// What is wrong with an opening but for its edition and its rule.
+fn without_choices(opening: &Opening) -> Option<u8> {
     refusal(&Opening {
         edition: FIRST,
+        rule: EARLIER,
         ..opening.clone()
     })
 }
@@ -44,26 +57,43 @@ pub fn read(flaw: Flaw, record: &Record) -> Record {
     };
     Record {
         edition,
+        rule: read_rule(flaw, record),
         ..record.clone()
+    }
+}
+
+fn read_rule(flaw: Flaw, record: &Record) -> u64 {
+    let (is_priority, is_second) = (
+        record.manager == Manager::Priority,
+        record.edition == SECOND,
+    );
+    match (flaw, record.rule) {
+        (Flaw::PriorityEarlier, LATER) if is_priority => EARLIER,
+        (Flaw::SecondEarlier, LATER) if is_second => EARLIER,
+        (Flaw::RuleLowByte, rule) => rule & 0xff,
+        (Flaw::DamagedRuleIsTaken, rule) if !is_rule(rule) => EARLIER,
+        (_, rule) => rule,
     }
 }
 
 pub fn test(flaw: Flaw, record: &Record, request: Request) -> Result<(), u8> {
     let record = read(flaw, record);
-    let with_edition = Record {
+    let whole = Record {
         edition: FIRST,
+        rule: EARLIER,
         ..record.clone()
     };
     if flaw == Flaw::BundleFirst {
-        with_edition.test(request)?;
+        whole.test(request)?;
     }
-    test_edition(flaw, &record)?;
-    with_edition.test(request)
+    test_choices(flaw, &record)?;
+    whole.test(request)
 }
 
-pub fn test_edition(flaw: Flaw, record: &Record) -> Result<(), u8> {
-    match (flaw, record.test_edition()) {
-        (Flaw::DamagedIsTwo, Err(_)) => Err(2),
+pub fn test_choices(flaw: Flaw, record: &Record) -> Result<(), u8> {
+    match (flaw, record.test_choices()) {
+        (Flaw::DamagedIsTwo, Err(_)) if !is_edition(record.edition) => Err(2),
+        (Flaw::DamagedRuleIsTwo, Err(_)) if !is_rule(record.rule) => Err(2),
         (_, tested) => tested,
     }
 }
@@ -118,8 +148,10 @@ pub fn most_listed(flaw: Flaw) -> usize {
 }
 
 pub fn after_booking(flaw: Flaw, record: &mut Record) {
-    if flaw == Flaw::Forgets {
-        record.edition = FIRST;
+    match flaw {
+        Flaw::Forgets => record.edition = FIRST,
+        Flaw::ForgetsRule => record.rule = EARLIER,
+        _ => {}
     }
 }
 

@@ -7,6 +7,7 @@ use oracle::modes::reading::capacity::Capacity;
 use oracle::modes::reading::fraction::Fraction;
 use oracle::modes::reading::record::{Record, Send};
 use oracle::modes::terms::{EXACT, Opening, PORTED};
+use oracle::rules::EARLIER;
 
 use super::flaw::Flaw;
 
@@ -150,8 +151,10 @@ fn halved(flaw: Flaw, from: i64, to: i64, compared: impl Fn(i64) -> Ordering) ->
 // Delays
 
 pub fn dates(flaw: Flaw, record: &Record, send: Send) -> Result<Dates, u8> {
+    let is_first = record.opening.rule == EARLIER;
     match flaw {
-        Flaw::LookupAfter => {
+        Flaw::Looks(lookup) => lookup.dates(record.looked_up(), send.start, send.end),
+        Flaw::LookupAfter if is_first => {
             let delays = &record.opening.contact.delays;
             let first = delays.iter().position(|delay| delay.end >= send.start);
             let mut rest = delays.iter().skip(first.ok_or(8)? + 1);
@@ -159,7 +162,7 @@ pub fn dates(flaw: Flaw, record: &Record, send: Send) -> Result<Dates, u8> {
             let Dates([start, end, from, _]) = record.dates(send)?;
             Ok(Dates([start, end, from, end + second.value]))
         }
-        Flaw::StrictDelay => {
+        Flaw::StrictDelay if is_first => {
             let mut strict = record.clone();
             let delays = strict.opening.contact.delays.iter_mut();
             delays.for_each(|delay| delay.end -= 1);

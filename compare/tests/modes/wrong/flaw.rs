@@ -1,11 +1,15 @@
 //! The flaws, one program each.
 
+use crate::lookups::Lookup;
+
 /// Names each flaw once, for the type and for the list of all of them.
 macro_rules! flaws {
     ($($(#[$about:meta])* $flaw:ident,)*) => {
         #[derive(Clone, Copy, Debug, PartialEq, Eq)]
         pub enum Flaw {
             None,
+            /// Delays are looked up wrongly.
+            Looks(Lookup),
             $($(#[$about])* $flaw,)*
         }
 
@@ -135,4 +139,35 @@ flaws! {
     AnyReceiveEnd,
     /// A booking that is not offered is 7 where there is no offer.
     NotOfferedIsSeven,
+    // Rules
+    /// Mode 2 has rule 1 alone.
+    SecondEarlier,
+    /// Rule 3 opens as rule 2.
+    RuleThirdOpens,
+    /// Rule 0 opens as rule 1.
+    RuleZeroOpens,
+    /// Only the low byte of the rule is read.
+    RuleLowByte,
+    /// A wrong rule is 2 after 3.
+    RuleAfterThree,
+    /// Delays that do not cover open under rule 2.
+    GapOpens,
+    /// They are refused with 5 after 11.
+    GapAfterEleven,
+    /// They are refused with 11.
+    GapIsEleven,
+    /// Delays must cover under rule 1 too.
+    EarlierCovers,
+    /// Under rule 2 no delay list at all opens.
+    NoneOpens,
+    /// Under rule 2 delays may go on after the window's end.
+    LongerOpens,
+    /// A record whose rule is none is taken as one of rule 1.
+    DamagedRuleIsTaken,
+    /// It is refused with 2.
+    DamagedRuleIsTwo,
+    /// A record of rule 2 is taken where its delays do not cover.
+    RecordGapTaken,
+    /// A booking leaves a record of rule 1.
+    ForgetsRule,
 }

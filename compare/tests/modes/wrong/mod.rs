@@ -11,8 +11,10 @@ use oracle::modes::dialogues::Modes;
 use oracle::modes::reading::record::{Record, Send};
 use oracle::modes::terms::{Field, Opening, PORTED, is_mode};
 use oracle::modes::{Settings, check};
+use oracle::rules::EARLIER;
 use oracle::trial::Counted;
 
+use crate::lookups::Lookup;
 pub use flaw::Flaw;
 
 /// The reading with one flaw.
@@ -79,8 +81,10 @@ impl Calls for Wrong {
         }
         let record = self.record.as_mut().ok_or(1)?;
         record.list = list;
-        if self.flaw == Flaw::Forgets {
-            record.opening.mode = PORTED;
+        match self.flaw {
+            Flaw::Forgets => record.opening.mode = PORTED,
+            Flaw::ForgetsRule => record.opening.rule = EARLIER,
+            _ => {}
         }
         Ok(())
     }
@@ -98,7 +102,7 @@ impl Calls for Wrong {
     }
 }
 
-const CALLS: usize = 60_000;
+const CALLS: usize = 100_000;
 
 /// Without a flaw the program is the reading.
 #[test]
@@ -110,7 +114,8 @@ fn no_flaw_is_not_seen() {
 #[test]
 fn each_flaw_is_seen() {
     let mut unseen = Vec::new();
-    for flaw in Flaw::ALL {
+    let lookups = Lookup::ALL.map(Flaw::Looks);
+    for flaw in Flaw::ALL.iter().chain(&lookups) {
         for seed in [1, 2, 3] {
             if seen(*flaw, seed).is_none() {
                 unseen.push((flaw, seed));
@@ -118,7 +123,7 @@ fn each_flaw_is_seen() {
         }
     }
     assert!(unseen.is_empty(), "{unseen:?}");
-    println!("{} flaws seen", Flaw::ALL.len());
+    println!("{} flaws seen", Flaw::ALL.len() + lookups.len());
 }
 
 /// What is printed of a flaw, if it is seen.

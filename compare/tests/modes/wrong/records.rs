@@ -1,9 +1,11 @@
 //! Flaws of the openings, of the record's test and of the lists.
 
-use oracle::frames::{Request, Span};
+use oracle::frames::{Request, Span, Window};
 use oracle::modes::reading::opening::refusal;
 use oracle::modes::reading::record::{Record, Send, test_request};
 use oracle::modes::terms::{EXACT, Opening, PORTED, is_mode};
+use oracle::rules::cover::delays_cover;
+use oracle::rules::{EARLIER, LATER, is_rule};
 
 use super::flaw::Flaw;
 use super::range;
@@ -17,6 +19,10 @@ pub fn opening(flaw: Flaw, opening: &Opening) -> Result<Opening, u8> {
     let refused = match flaw {
         Flaw::TwoAfterThree => without_mode(&read).filter(|number| *number == 3),
         Flaw::TwoLast => without_mode(&read),
+        Flaw::RuleAfterThree => without_rule(&read).filter(|number| *number == 3),
+        Flaw::GapAfterEleven => without_rule(&read).filter(|number| *number == 11),
+        Flaw::GapIsEleven => gap(&read).map(|_| 11),
+        Flaw::EarlierCovers => gap(&ruled(&read, LATER)).filter(|_| is_rule(read.rule)),
         Flaw::ElevenBeforeFive => eleven_first(&read),
         Flaw::SeventeenDelays => seventeen(&read),
         Flaw::NoBackwardDelay => {
@@ -29,9 +35,45 @@ pub fn opening(flaw: Flaw, opening: &Opening) -> Result<Opening, u8> {
     let refused = refused.or_else(|| match range::is_of(flaw) {
         true => refusal_by_range(flaw, &read),
         false if flaw == Flaw::SeventeenDelays => None,
+        false if opens_loose(flaw, &read) => None,
         false => refusal(&read),
     });
     refused.map_or(Ok(read), Err)
+}
+
+/// 5, if all that is wrong is that delays do not cover.
+fn gap(opening: &Opening) -> Option<u8> {
+    let refused = refusal(opening).filter(|number| *number == 5)?;
+    without_rule(opening).is_none().then_some(refused)
+}
+
+/// Whether these delays open under rule 2.
+fn opens_loose(flaw: Flaw, opening: &Opening) -> bool {
+    let contact = &opening.contact;
+    let up_to = |end| {
+        let start = contact.window.start;
+        delays_cover(&contact.delays, Window { start, end })
+    };
+    let last = contact.delays.last().map_or(0, |delay| delay.end);
+    let is_loose = match flaw {
+        Flaw::GapOpens => true,
+        Flaw::NoneOpens => contact.delays.is_empty(),
+        Flaw::LongerOpens => last > contact.window.end && up_to(last),
+        _ => false,
+    };
+    is_loose && gap(opening).is_some()
+}
+
+fn ruled(opening: &Opening, rule: u64) -> Opening {
+    Opening {
+        rule,
+        ..opening.clone()
+    }
+}
+
+/// What is wrong with an opening but for its rule.
+fn without_rule(opening: &Opening) -> Option<u8> {
+    refusal(&ruled(opening, EARLIER))
 }
 
 fn named(flaw: Flaw, opening: &Opening) -> Opening {
@@ -41,8 +83,15 @@ fn named(flaw: Flaw, opening: &Opening) -> Opening {
         (Flaw::LowByte, mode) => mode & 0xff,
         (_, mode) => mode,
     };
+    let rule = match (flaw, opening.rule) {
+        (Flaw::RuleThirdOpens, 3) => LATER,
+        (Flaw::RuleZeroOpens, 0) => EARLIER,
+        (Flaw::RuleLowByte, rule) => rule & 0xff,
+        (_, rule) => rule,
+    };
     Opening {
         mode,
+        rule,
         ..opening.clone()
     }
 }
@@ -94,6 +143,13 @@ pub fn read(flaw: Flaw, record: &Record) -> Record {
         Flaw::DamagedIsTaken if !is_mode(mode) => EXACT,
         _ => mode,
     };
+    let rule = record.opening.rule;
+    read.opening.rule = match flaw {
+        Flaw::SecondEarlier if mode == EXACT && rule == LATER => EARLIER,
+        Flaw::RuleLowByte => rule & 0xff,
+        Flaw::DamagedRuleIsTaken if !is_rule(rule) => EARLIER,
+        _ => rule,
+    };
     read
 }
 
@@ -101,6 +157,8 @@ pub fn test(flaw: Flaw, record: &Record) -> Result<(), u8> {
     let is_none = !is_mode(record.opening.mode);
     match (flaw, record.test()) {
         (Flaw::DamagedIsTwo, Err(_)) if is_none => Err(2),
+        (Flaw::DamagedRuleIsTwo, Err(_)) if !is_rule(record.opening.rule) => Err(2),
+        (_, Err(_)) if takes_gap(flaw, &record.opening) => Ok(()),
         (Flaw::RecordUntested, Err(_)) if !is_none => Ok(()),
         (Flaw::RecordPortedRange, Err(_)) if !is_none => match without_mode(&record.opening) {
             None => Ok(()),
@@ -108,6 +166,12 @@ pub fn test(flaw: Flaw, record: &Record) -> Result<(), u8> {
         },
         (_, tested) => tested,
     }
+}
+
+/// Whether a record with these delays under rule 2 is taken.
+fn takes_gap(flaw: Flaw, opening: &Opening) -> bool {
+    let opens = opens_loose(flaw, opening);
+    opens || flaw == Flaw::RecordGapTaken && gap(opening).is_some()
 }
 
 /// 1 before 2.
