@@ -28,6 +28,7 @@ fn the_oracle_does_not_differ_from_itself() {
         "malformed",
         "room",
         "filled",
+        "rules",
         "all",
     ] {
         let output = compare(Path::new(ORACLE), &["--kind", kind, "--seed", "7"]);

@@ -1,7 +1,7 @@
-//! The oracle answers what document 01 and document 02's R-1 state.
+//! The oracle answers what document 01 and document 02's state.
 
 use oracle::Oracle;
-use oracle::stated::{self, Talk, cases, limits, lines, openings, orders, refusals, room};
+use oracle::stated::{self, Talk, cases, limits, lines, openings, orders, refusals, room, rules};
 
 /// Runs each exchange on a fresh oracle and compares every line.
 fn hold(talks: Vec<Talk>) {
@@ -52,6 +52,11 @@ fn the_first_of_several_faults() {
 fn refusals_of_calls() {
     hold(refusals::nothing_open());
     hold(refusals::talks());
+}
+
+#[test]
+fn delay_rules() {
+    hold(rules::talks());
 }
 
 #[test]

@@ -8,6 +8,7 @@ pub mod openings;
 pub mod orders;
 pub mod refusals;
 pub mod room;
+pub mod rules;
 
 use crate::frames::{
     self, Answer, BUDGETS, Content, Dates, Frame, Load, PolyOpening, QueueOpening, RatedOpening,

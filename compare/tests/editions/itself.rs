@@ -5,6 +5,7 @@ use oracle::editions::figures::Sort;
 use oracle::editions::reading::Reading;
 use oracle::editions::terms::{FIRST, SECOND};
 use oracle::editions::{Settings, check};
+use oracle::rules::{EARLIER, LATER};
 
 #[test]
 fn every_outcome_is_met_in_both_editions() {
@@ -39,6 +40,37 @@ fn every_outcome_is_met_in_both_editions() {
     assert!(figures.sums_second > 5_000);
     assert!(figures.apart > 5_000);
     assert!(figures.calls_of(SECOND) > 2 * figures.calls_of(FIRST));
+}
+
+#[test]
+fn every_outcome_is_met_under_both_rules() {
+    let settings = Settings {
+        calls: 200_000,
+        seed: 53,
+        editions: Editions::Both,
+    };
+    let figures = check(&settings, Reading::of).figures;
+    for rule in [EARLIER, LATER] {
+        for (sort, numbers) in [
+            (Sort::Opening, &[0, 3, 4, 5, 6][..]),
+            (Sort::DryRun, &[0, 1, 2, 7]),
+            (Sort::Booking, &[0, 1, 2, 9, 10]),
+            (Sort::List, &[0, 1]),
+            (Sort::Room, &[0, 1]),
+            (Sort::Write, &[0, 1]),
+        ] {
+            for number in numbers {
+                let count = figures.answered_under(rule, sort, *number);
+                assert!(count > 20, "{rule} {sort:?} {number}: {count}");
+            }
+        }
+    }
+    assert!(figures.answered_under(0, Sort::Opening, 2) > 500);
+    for sort in [Sort::DryRun, Sort::Booking, Sort::List, Sort::Room] {
+        assert!(figures.answered_under(0, sort, 1) > 100, "{sort:?}");
+    }
+    assert!(figures.apart_by_rule > 2_000);
+    assert!(3 * figures.calls_under(LATER) > 4 * figures.calls_under(EARLIER));
 }
 
 #[test]

@@ -5,6 +5,7 @@ use oracle::modes::figures::Sort;
 use oracle::modes::reading::Reading;
 use oracle::modes::terms::{EXACT, PORTED};
 use oracle::modes::{Settings, check};
+use oracle::rules::{EARLIER, LATER};
 
 #[test]
 fn every_outcome_is_met_in_both_modes() {
@@ -38,6 +39,40 @@ fn every_outcome_is_met_in_both_modes() {
     assert_eq!(figures.longest_list, 64);
     assert!(figures.apart > 5_000);
     assert!(figures.calls_of(EXACT) > 2 * figures.calls_of(PORTED));
+}
+
+/// Only under rule 1 does a lookup find nothing: 8.
+#[test]
+fn every_outcome_is_met_under_both_rules() {
+    let settings = Settings {
+        calls: 200_000,
+        seed: 64,
+        modes: Modes::Both,
+    };
+    let figures = check(&settings, Reading::default).figures;
+    for rule in [EARLIER, LATER] {
+        for (sort, numbers) in [
+            (Sort::Opening, &[0, 3, 5, 11][..]),
+            (Sort::DryRun, &[0, 1, 2, 7]),
+            (Sort::Booking, &[0, 1, 2, 9, 10]),
+            (Sort::List, &[0, 1]),
+            (Sort::Write, &[0, 1]),
+        ] {
+            for number in numbers {
+                let count = figures.answered_under(rule, sort, *number);
+                assert!(count > 50, "{rule} {sort:?} {number}: {count}");
+            }
+        }
+    }
+    assert!(figures.answered_under(EARLIER, Sort::DryRun, 8) > 100);
+    assert_eq!(figures.answered_under(LATER, Sort::DryRun, 8), 0);
+    assert!(figures.answered_under(LATER, Sort::Opening, 5) > 1_000);
+    assert!(figures.answered_under(0, Sort::Opening, 2) > 1_000);
+    for sort in [Sort::DryRun, Sort::Booking, Sort::List, Sort::Write] {
+        assert!(figures.answered_under(0, sort, 1) > 500, "{sort:?}");
+    }
+    assert!(figures.apart_by_rule > 3_000);
+    assert!(figures.calls_under(LATER) > figures.calls_under(EARLIER));
 }
 
 /// Each of R-6's claims is held often.

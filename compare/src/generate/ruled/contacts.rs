@@ -4,7 +4,7 @@ use crate::frames::{COEFFICIENTS, PolyOpening, RatedOpening, Ruled, Span, Window
 use crate::generate::dialogues::Manager;
 use crate::generate::openings::{self, Scale, delay, loose_delays, placed, tiled};
 use crate::generate::rng::Rng;
-use crate::limits::{MAX_DATE, MAX_DELAYS, MAX_RATES};
+use crate::limits::{MAX_COEFFICIENT, MAX_DATE, MAX_DELAYS, MAX_RATE, MAX_RATES, MAX_VOLUME};
 use crate::modes::reading::capacity::Capacity;
 use crate::modes::terms::{Opening, PORTED};
 use crate::rules::{EARLIER, LATER};
@@ -160,6 +160,26 @@ fn rate(rng: &mut Rng) -> i64 {
 /// Mostly as many as there can be; neighbours mostly differ.
 fn delays(rng: &mut Rng, window: Window) -> Vec<Span> {
     tiled(rng, window, MAX_DELAYS, |rng, _| delay(rng))
+}
+
+/// A rate, the volume or a coefficient outside its limits: 6 or 11. Every second
+/// one has delays that do not cover too: 5 comes after 6, and before 11.
+pub fn too_large(rng: &mut Rng, manager: Manager) -> Ruled {
+    let mut opening = match rng.once_in(2) {
+        true => with_gap(rng, manager),
+        false => opening(rng, manager),
+    };
+    match &mut opening {
+        Ruled::Free(contact) | Ruled::Priority(contact) => {
+            let place = rng.below(contact.rates.len());
+            contact.rates[place].value = rng.pick(&[-1, MAX_RATE, MAX_RATE + 1, MAX_VOLUME]);
+        }
+        Ruled::Poly(contact) => {
+            let power = rng.below(COEFFICIENTS);
+            contact.coefficients[power] = rng.pick(&[MAX_COEFFICIENT + 1, MAX_COEFFICIENT]);
+        }
+    }
+    opening
 }
 
 // ---------------------------------------------------------------------------

@@ -80,11 +80,12 @@ pub fn refused(rng: &mut Rng, sink: &mut Sink) {
     let manager = rng.pick(&MANAGERS);
     let rule = contacts::rule(rng);
     let none = lines::no_rule(rng);
-    let _ = match rng.below(8) {
+    let _ = match rng.below(9) {
         0 => sink.ask(&Frame::OpenRuled(contacts::opening(rng, manager), none)),
         1 => sink.ask(&wrong(rng).ruled(none)),
         2..4 => sink.ask(&wrong(rng).ruled(rule)),
         4..6 => sink.ask(&Frame::OpenRuled(contacts::with_gap(rng, manager), rule)),
+        6 => sink.ask(&Frame::OpenRuled(contacts::too_large(rng, manager), rule)),
         _ => {
             let opening = contacts::opening(rng, manager);
             sink.line(&lines::of_another_length(rng, opening, rule))
