@@ -1,6 +1,6 @@
 //! The proved free-volume and priority managers, held against a reading of
 //! documents 01 and 02 in plain Rust (`compare/src/editions`), in both editions
-//! of the end rule.
+//! of the end rule and under both delay rules.
 //!
 //! Every call goes through both doors: the manager's own, which tests nothing,
 //! and the total one, on a copy of the record. They must say and leave the same.
@@ -15,7 +15,7 @@ use howrekano::{
 };
 use oracle::editions::calls::Calls;
 use oracle::editions::program;
-use oracle::editions::terms::{Manager as Which, Opening};
+use oracle::editions::terms::{Field, Manager as Which, Opening};
 use oracle::frames::{Dates, Request, Span};
 
 fn main() -> ExitCode {
@@ -33,7 +33,7 @@ struct Tested<R: Editioned>(Held<R>);
 /// What the calls need of each manager.
 trait Editioned: Record<Opening = record::Opening> + Debug {
     fn open(given: &Given) -> Result<Manager<Self>, Refusal>;
-    fn name(&mut self, edition: u64);
+    fn choices(&mut self) -> &mut Choices;
     fn kept_list(manager: &Manager<Self>) -> Vec<Span>;
     fn total_list(&self) -> Result<Vec<Span>, Refusal>;
     fn kept_room(manager: &Manager<Self>) -> u64;
@@ -45,8 +45,8 @@ impl Editioned for record::FreeVolume {
         FreeVolume::open_with(given.choices, given.window, &given.rates, &given.delays)
     }
 
-    fn name(&mut self, edition: u64) {
-        self.contact.choices.edition = edition;
+    fn choices(&mut self) -> &mut Choices {
+        &mut self.contact.choices
     }
 
     fn kept_list(manager: &Manager<Self>) -> Vec<Span> {
@@ -72,8 +72,8 @@ impl Editioned for record::PrioritySeg {
         PrioritySeg::open_with(given.choices, given.window, &given.rates, &given.delays)
     }
 
-    fn name(&mut self, edition: u64) {
-        self.contact.choices.edition = edition;
+    fn choices(&mut self) -> &mut Choices {
+        &mut self.contact.choices
     }
 
     fn kept_list(manager: &Manager<Self>) -> Vec<Span> {
@@ -122,8 +122,11 @@ impl<R: Editioned> Calls for Tested<R> {
         Ok(room as i64)
     }
 
-    fn name_edition(&mut self, edition: u64) -> Result<(), u8> {
-        self.0.rewrite(|record| record.name(edition))
+    fn write(&mut self, field: Field) -> Result<(), u8> {
+        self.0.rewrite(|record| match field {
+            Field::Edition(edition) => record.choices().edition = edition,
+            Field::Rule(rule) => record.choices().rule = rule,
+        })
     }
 }
 
@@ -144,6 +147,7 @@ impl Given {
         Given {
             choices: Choices {
                 edition: opening.edition,
+                rule: opening.rule,
             },
             window: window(contact.window),
             rates: contact.rates.iter().map(rate).collect(),

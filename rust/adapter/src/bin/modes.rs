@@ -1,9 +1,11 @@
 //! The proved polynomial manager, held against a reading of documents 01 and 02
-//! in plain Rust (`compare/src/modes`), in both modes of its capacity.
+//! in plain Rust (`compare/src/modes`), in both modes of its capacity and under both
+//! delay rules.
 //!
 //! Every call goes through both doors: the manager's own, which tests nothing,
 //! and the total one, on a copy of the record. They must say and leave the same.
-//! The opening that names no mode is one of mode 1, and is made beside it.
+//! The opening that chooses nothing is one of mode 1 and rule 1, and is made beside
+//! it.
 
 use std::process::ExitCode;
 
@@ -51,6 +53,7 @@ impl Calls for Tested {
     fn write(&mut self, field: Field) -> Result<(), u8> {
         self.0.rewrite(|record| match field {
             Field::Mode(mode) => record.choices.mode = mode,
+            Field::Rule(rule) => record.choices.rule = rule,
             Field::Offset(offset) => record.polynome.offset = word(offset),
             Field::Coefficient(power, number) => record.polynome.coefficients[power] = number,
         })
@@ -69,7 +72,10 @@ impl Given {
     fn of(opening: &Opening) -> Self {
         let contact = &opening.contact;
         Given {
-            choices: PolynomialChoices { mode: opening.mode },
+            choices: PolynomialChoices {
+                mode: opening.mode,
+                rule: opening.rule,
+            },
             window: window(contact.window),
             polynome: Polynome {
                 coefficients: contact.coefficients,
