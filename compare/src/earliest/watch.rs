@@ -4,7 +4,7 @@
 use super::claim::{Booked, Contact, Place};
 use super::figures::{Figures, Passed};
 use crate::drive::differ;
-use crate::frames::{self, Dates, Frame, RatedOpening, Request, Span, Window};
+use crate::frames::{self, Dates, Frame, RatedOpening, Request, Ruled, Span, Window};
 use crate::free::test_opening;
 use crate::limits::{self, MAX_LISTED, MAX_PRIORITY};
 
@@ -103,11 +103,14 @@ impl Watch {
         })
     }
 
-    /// A frame that is done: an opening begins anew.
+    /// A frame that is done: an opening begins anew. The claim does not go by the
+    /// delay rule.
     fn open(&mut self, frame: Option<&Frame>) {
         self.open = match frame {
-            Some(Frame::OpenPriority(opening)) => Open::of(opening),
-            Some(Frame::OpenFree(_) | Frame::OpenPoly(_) | Frame::OpenQueue(_)) => None,
+            Some(Frame::OpenPriority(opening) | Frame::OpenRuled(Ruled::Priority(opening), _)) => {
+                Open::of(opening)
+            }
+            Some(frame) if frame.is_opening() => None,
             _ => return,
         };
         self.frames.clear();

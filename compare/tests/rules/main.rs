@@ -1,6 +1,7 @@
 //! Document 02's R-4 at the frames: the lookup on every covering list of a short
-//! window, frames 21 to 23 with rule 1 beside 01 to 03, and programs that are wrong
-//! held against `compare --kind rules`.
+//! window, frames 21 to 23 with rule 1 beside 01 to 03, rule 2 beside the original
+//! with boundaries a tick earlier, and programs that are wrong held against
+//! `compare --kind rules`.
 
 mod lookup;
 #[path = "../lookups/mod.rs"]
@@ -10,4 +11,5 @@ mod program;
 mod programs;
 mod records;
 mod run;
+mod shifted;
 mod wrong;
