@@ -111,7 +111,7 @@ fn what_covers_is_a_way_to_cut() {
     let mut seen = 0;
     let mut lists: Vec<Vec<Span>> = vec![vec![]];
     for _ in 0..3 {
-        lists = lists.iter().flat_map(with_one_more).collect();
+        lists = lists.iter().flat_map(|list| with_one_more(list)).collect();
         for list in &lists {
             let bare = |list: &[Span]| -> Vec<(i64, i64)> {
                 list.iter().map(|span| (span.start, span.end)).collect()
@@ -125,12 +125,12 @@ fn what_covers_is_a_way_to_cut() {
     assert!(!covers(&[], window, 16));
 }
 
-fn with_one_more(list: &Vec<Span>) -> Vec<Vec<Span>> {
+fn with_one_more(list: &[Span]) -> Vec<Vec<Span>> {
     let mut longer = Vec::new();
     for start in 0..=5 {
         for end in 0..=5 {
             let value = 7;
-            let mut list = list.clone();
+            let mut list = list.to_vec();
             list.push(Span { start, end, value });
             longer.push(list);
         }
