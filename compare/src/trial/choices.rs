@@ -2,7 +2,7 @@
 //! rules alike: such as are none, and how they are counted.
 
 use crate::generate::rng::Rng;
-use crate::rules::{EARLIER, LATER};
+use crate::generate::ruled::contacts;
 
 /// Choices that are none; some look like 1 or 2 in fewer bits.
 const NONE: [u64; 12] = [
@@ -22,18 +22,13 @@ const NONE: [u64; 12] = [
 
 /// The largest that there is, of each kind.
 const LAST: u64 = 2;
-/// Of so many openings one is under rule 1.
-const EARLIER_SHARE: usize = 3;
 
 pub fn none(rng: &mut Rng) -> u64 {
     rng.pick(&NONE)
 }
 
 pub fn rule(rng: &mut Rng) -> u64 {
-    match rng.once_in(EARLIER_SHARE) {
-        true => EARLIER,
-        false => LATER,
-    }
+    contacts::rule(rng).into()
 }
 
 /// Two choices of which one or both are none.

@@ -17,8 +17,8 @@ use contacts::Contact;
 /// The managers that look up delays.
 pub const MANAGERS: [Manager; 3] = [Manager::Free, Manager::Priority, Manager::Poly];
 
-/// One opening in so many is a frame 01 to 03.
-const PLAIN_SHARE: usize = 8;
+/// Of so many openings under rule 1 one is a frame 01 to 03.
+const PLAIN_SHARE: usize = 4;
 /// So many openings are tried; one that is refused is compared too.
 const TRIES: usize = 8;
 /// One dialogue in so many fills the list.
