@@ -47,7 +47,11 @@ fn opened(mode: u64, constant: i64, offset: u64) -> Result<PolySeg, Refusal> {
         end: WINDOW.end,
         delay: 3,
     }];
-    PolySeg::open_with(PolynomialChoices { mode }, WINDOW, line, &delays)
+    let choices = PolynomialChoices {
+        mode,
+        ..PolynomialChoices::default()
+    };
+    PolySeg::open_with(choices, WINDOW, line, &delays)
 }
 
 fn asked(pass: &PolySeg, size: u64) -> Result<Interval, Refusal> {

@@ -58,25 +58,77 @@ pub trait Chosen: Copy + Default {
 /// assert_eq!(sent_at_3(3, 20), Err(Refusal::CHOICE));
 /// assert_eq!(Refusal::CHOICE.number(), 2);
 /// ```
+///
+/// # The rule of the delays
+///
+/// A send is received from its start plus the delay there to its end plus the
+/// delay there. Where one delay segment ends and the next starts, the rule says
+/// whose the tick is.
+///
+/// - Rule 1, the original's, gives it to the segment that ends there: a date has
+///   the first segment whose end is not before it, and the lookup of a send's end
+///   goes on from its start's segment.
+/// - Rule 2 gives it to the segment that starts there: a date has the segment with
+///   start <= date < end, and the window's end has the last segment. A station
+///   that switches its antenna on that tick has the later delay for a send that
+///   starts there, and for one that ends there.
+///
+/// Only sends that start or end on such a tick inside the window are received at
+/// other times: the window's start has the first segment's delay under both rules,
+/// and its end the last one's. When a bundle is sent, and what is listed, does not
+/// depend on the rule.
+///
+/// Document 01's case 7, where the delay falls at 4, and sends around it:
+///
+/// ```
+/// use howrekano::{Bundle, Choices, DelaySegment, FreeVolume, Interval, RateSegment, Refusal};
+///
+/// let window = Interval { start: 0, end: 10 };
+/// let rates = [RateSegment { start: 0, end: 10, rate: 10 }];
+/// let delays = [
+///     DelaySegment { start: 0, end: 4, delay: 10 },
+///     DelaySegment { start: 4, end: 10, delay: 2 },
+/// ];
+/// let received = |rule, at| {
+///     let choices = Choices { rule, ..Choices::default() };
+///     let contact = FreeVolume::open_with(choices, window, &rates, &delays)?;
+///     let recv = contact.dry_run(at, Bundle { size: 10, priority: 0 })?.recv;
+///     Ok((recv.start, recv.end))
+/// };
+/// // sent from 4 to 5
+/// assert_eq!(received(1, 4), Ok((14, 7)));
+/// assert_eq!(received(2, 4), Ok((6, 7)));
+/// // sent from 3 to 4
+/// assert_eq!(received(1, 3), Ok((13, 14)));
+/// assert_eq!(received(2, 3), Ok((13, 6)));
+/// // sent from 9 to 10, the window's end
+/// assert_eq!(received(1, 9), received(2, 9));
+/// assert_eq!(received(3, 4), Err(Refusal::CHOICE));
+/// ```
 #[repr(C)]
 #[derive(Clone, Copy, Debug, PartialEq, Eq, Hash)]
 pub struct Choices {
     /// The edition of the end rule: 1 or 2.
     pub edition: u64,
+    /// The rule of the delays: 1 or 2.
+    pub rule: u64,
 }
 
 impl Default for Choices {
     /// What the original has.
     fn default() -> Self {
-        Choices { edition: 1 }
+        Choices {
+            edition: 1,
+            rule: 1,
+        }
     }
 }
 
 impl Chosen for Choices {
-    const COUNT: usize = 1;
+    const COUNT: usize = 2;
 
     fn places(&mut self) -> impl ExactSizeIterator<Item = &mut u64> {
-        [&mut self.edition].into_iter()
+        [&mut self.edition, &mut self.rule].into_iter()
     }
 }
 
@@ -133,24 +185,55 @@ impl Chosen for Choices {
 /// assert!(slope_1(2, 1 << 29).is_ok());
 /// # Ok::<(), Refusal>(())
 /// ```
+///
+/// # The rule of the delays
+///
+/// The rules are those of [`Choices`](Choices#the-rule-of-the-delays). The rule
+/// also says what delays a contact can be opened with.
+///
+/// - Under rule 1, as in the original, they need not cover the window, nor be in
+///   order. A send for which a lookup finds none is refused with
+///   [`Refusal::NO_DELAY`](crate::Refusal::NO_DELAY).
+/// - Under rule 2 they cover exactly the window, as those of the other managers do
+///   under both rules; else the opening is refused with
+///   [`Refusal::DELAYS`](crate::Refusal::DELAYS). Every send then has its delays,
+///   and no call is refused for want of one. This is proved.
+///
+/// ```
+/// use howrekano::{Bundle, DelaySegment, Interval, PolySeg, Polynome, PolynomialChoices, Refusal};
+///
+/// let window = Interval { start: 0, end: 10 };
+/// let rate_10 = Polynome { coefficients: [10, 0, 0, 0], offset: 0 };
+/// let opened = |rule, end| {
+///     let choices = PolynomialChoices { rule, ..PolynomialChoices::default() };
+///     PolySeg::open_with(choices, window, rate_10, &[DelaySegment { start: 0, end, delay: 3 }])
+/// };
+/// let late = |contact: PolySeg| contact.dry_run(8, Bundle { size: 10, priority: 0 });
+/// assert_eq!(opened(1, 8).and_then(late), Err(Refusal::NO_DELAY));
+/// assert_eq!(opened(2, 8), Err(Refusal::DELAYS));
+/// assert_eq!(opened(2, 10).and_then(late)?.recv, Interval { start: 11, end: 12 });
+/// # Ok::<(), Refusal>(())
+/// ```
 #[repr(C)]
 #[derive(Clone, Copy, Debug, PartialEq, Eq, Hash)]
 pub struct PolynomialChoices {
     /// The mode in which capacity is counted: 1 or 2.
     pub mode: u64,
+    /// The rule of the delays: 1 or 2.
+    pub rule: u64,
 }
 
 impl Default for PolynomialChoices {
     /// What the original has.
     fn default() -> Self {
-        PolynomialChoices { mode: 1 }
+        PolynomialChoices { mode: 1, rule: 1 }
     }
 }
 
 impl Chosen for PolynomialChoices {
-    const COUNT: usize = 1;
+    const COUNT: usize = 2;
 
     fn places(&mut self) -> impl ExactSizeIterator<Item = &mut u64> {
-        [&mut self.mode].into_iter()
+        [&mut self.mode, &mut self.rule].into_iter()
     }
 }

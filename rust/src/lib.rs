@@ -21,7 +21,9 @@
 //! does, or with `open_with` as the relay's own rule does: [`Choices`] says how.
 //! The polynomial manager counts capacity as the original does, which drops
 //! fractions, or with `open_with` as the true integral: [`PolynomialChoices`] says
-//! how.
+//! how. On the tick at which a delay changes, all three take the earlier delay, as
+//! the original does, or with `open_with` the later one: [the rule of the
+//! delays](Choices#the-rule-of-the-delays) says when.
 //!
 //! A record can be taken out and put back, as bytes or as plain data:
 //!

@@ -37,7 +37,8 @@ impl PolySeg {
         Self::open_with(PolynomialChoices::default(), window, polynome, delays)
     }
 
-    /// [`PolySeg::open`] with these choices.
+    /// [`PolySeg::open`] with these choices; under rule 2 its delays cover exactly
+    /// the window.
     pub fn open_with(
         choices: PolynomialChoices,
         window: Interval,

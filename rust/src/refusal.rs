@@ -25,13 +25,17 @@ pub struct Refusal(u8);
 impl Refusal {
     pub const RECORD: Refusal = Refusal(1);
     pub const BUNDLE: Refusal = Refusal(2);
-    /// At an opening, 2 is for a choice that there is not.
+    /// At an opening, 2 is for a choice that there is not: an edition, a mode or a
+    /// rule other than 1 or 2.
     pub const CHOICE: Refusal = Self::BUNDLE;
     pub const WINDOW: Refusal = Refusal(3);
     pub const RATES: Refusal = Refusal(4);
+    /// With a polynomial, that the delays cover the window is asked under rule 2
+    /// alone.
     pub const DELAYS: Refusal = Refusal(5);
     pub const VOLUME: Refusal = Refusal(6);
     pub const NO_OFFER: Refusal = Refusal(7);
+    /// Met with a polynomial under rule 1 alone: all other delays cover the window.
     pub const NO_DELAY: Refusal = Refusal(8);
     pub const NOT_OFFERED: Refusal = Refusal(9);
     pub const FULL: Refusal = Refusal(10);
@@ -72,7 +76,7 @@ impl Refusal {
             ),
             Self::BUNDLE => (
                 "the time, the size or the priority is outside its limits, or an opening names a choice that there is not",
-                "ask at a time of 0 to 2^40 for a size of 1 to 2^38 with a priority of 0 to 127; open a contact with edition 1 or 2, a polynomial with mode 1 or 2",
+                "ask at a time of 0 to 2^40 for a size of 1 to 2^38 with a priority of 0 to 127; open a contact with edition 1 or 2, a polynomial with mode 1 or 2, and either with rule 1 or 2",
             ),
             Self::WINDOW => (
                 "the window is outside its limits",
@@ -84,7 +88,7 @@ impl Refusal {
             ),
             Self::DELAYS => (
                 "the delay segments do not cover exactly the window, or a delay is outside its limits",
-                "give 1 to 16 segments as for the rates, with delays of 0 to 2^40; with a polynomial, at most 16 segments",
+                "give 1 to 16 segments as for the rates, with delays of 0 to 2^40; with a polynomial under rule 1, at most 16, which need not cover the window",
             ),
             Self::VOLUME => (
                 "a rate, or the contact's total volume, is outside its limits",
@@ -95,8 +99,8 @@ impl Refusal {
                 "ask at another time or for a smaller size, or try another contact",
             ),
             Self::NO_DELAY => (
-                "a time to send was found, but no delay segment covers it",
-                "give delay segments up to the window's end when opening",
+                "a time to send was found, but the delays of a polynomial under rule 1, which need not cover the window, have none for it",
+                "give delay segments up to the window's end when opening; rule 2 refuses an opening without them",
             ),
             Self::NOT_OFFERED => (
                 "these dates are not what a dry run at this time offers now",

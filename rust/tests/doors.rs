@@ -1,8 +1,13 @@
 //! The kept door answers as the total one, and the total one refuses what is
 //! damaged: random records, calls and damage.
 
+mod common;
+
+use std::fmt::Debug;
+
+use common::{book_stated, offered, refuses};
 use howrekano::{
-    Bundle, Choices, DelaySegment, Flags, FreeVolume, Interval, Manager, Offer, PolySeg, Polynome,
+    Bundle, Choices, DelaySegment, Flags, FreeVolume, Interval, Manager, PolySeg, Polynome,
     PolynomialChoices, PrioritySeg, Queue, RateSegment, Record, Refusal, record,
 };
 
@@ -56,52 +61,28 @@ fn rates(rng: &mut Rng) -> [RateSegment; 2] {
 fn choices(rng: &mut Rng) -> Choices {
     Choices {
         edition: 1 + rng.below(2),
+        rule: 1 + rng.below(2),
     }
 }
 
 /// Calls by both doors; the records stay the same.
-fn talk<R: Record + std::fmt::Debug>(
+fn talk<R: Record + Debug>(
     rng: &mut Rng,
     manager: &mut Manager<R>,
     listed: impl Fn(&Manager<R>) -> R::List,
 ) where
-    R::List: PartialEq + std::fmt::Debug,
+    R::List: PartialEq + Debug,
 {
     for _ in 0..60 {
         let at = rng.below(LENGTH + 2);
         let bundle = bundle(rng);
-        let mut record = *manager.record();
-        let offer = manager.dry_run(at, bundle);
-        assert_eq!(record.dry_run(at, bundle), offer);
-        let mut stated = offer.unwrap_or_default();
+        let mut stated = offered(manager, at, bundle).unwrap_or_default();
         if rng.below(8) == 0 {
             stated.recv.end += 1;
         }
-        let booked = manager.book(at, bundle, stated);
-        assert_eq!(record.book(at, bundle, stated), booked);
-        assert_eq!(record, *manager.record());
-        assert!(record.is_kept());
-        assert_eq!(record.listed(), Ok(listed(manager)));
+        let _ = book_stated(manager, at, bundle, stated);
+        assert_eq!(manager.record().listed(), Ok(listed(manager)));
     }
-}
-
-/// A damaged record is refused by every total call and left as it came.
-fn refuses<R: Record + std::fmt::Debug>(record: R)
-where
-    R::List: PartialEq + std::fmt::Debug,
-{
-    let bundle = Bundle {
-        size: 1,
-        priority: 0,
-    };
-    let mut after = record;
-    assert!(!record.is_kept());
-    assert_eq!(Manager::from_record(record).err(), Some(Refusal::RECORD));
-    assert_eq!(record.dry_run(0, bundle), Err(Refusal::RECORD));
-    assert_eq!(record.listed().err(), Some(Refusal::RECORD));
-    let booked = after.book(0, bundle, Offer::default());
-    assert_eq!(booked, Err(Refusal::RECORD));
-    assert_eq!(after, record);
 }
 
 /// Bytes with one changed, or cut off: a record that keeps its rules, or none.
@@ -143,12 +124,13 @@ fn free_volume() {
         assert_eq!(FreeVolume::from_bytes(&manager.to_bytes()), Ok(manager));
         tampers(&mut rng, &manager.to_bytes(), FreeVolume::from_bytes);
         let mut damaged = *manager.record();
-        match rng.below(6) {
+        match rng.below(7) {
             0 => damaged.free.count = rng.word() as usize | 65,
             1 => damaged.free.segments[0].volume = u64::MAX - rng.below(9),
             2 => damaged.contact.rates[rng.below(2) as usize].volume ^= 1 << 50,
             3 => damaged.contact.delays[15].delay = 1 + rng.word() % 9,
             4 => damaged.room = damaged.room.wrapping_sub(9).wrapping_add(rng.below(9)),
+            5 => damaged.contact.choices.rule = rng.word() | 4,
             _ => damaged.free.segments[63].end = u64::MAX,
         }
         refuses(damaged);
@@ -167,10 +149,11 @@ fn priority() {
         assert_eq!(PrioritySeg::from_bytes(&manager.to_bytes()), Ok(manager));
         tampers(&mut rng, &manager.to_bytes(), PrioritySeg::from_bytes);
         let mut damaged = *manager.record();
-        match rng.below(4) {
+        match rng.below(5) {
             0 => damaged.bookings.count = 0,
             1 => damaged.bookings.segments[0].start += 1,
             2 => damaged.contact.window.end = 1 << 41,
+            3 => damaged.contact.choices.rule = rng.word() | 4,
             _ => damaged.contact.rate_count = rng.word() as usize | 17,
         }
         refuses(damaged);
@@ -183,6 +166,7 @@ fn polynomial() {
     for _ in 0..300 {
         let choices = PolynomialChoices {
             mode: 1 + rng.below(2),
+            rule: 1 + rng.below(2),
         };
         let polynome = Polynome {
             coefficients: [rng.below(9) as i64, rng.below(3) as i64 - 1, 0, 0],
@@ -194,11 +178,12 @@ fn polynomial() {
         assert_eq!(PolySeg::from_bytes(&manager.to_bytes()), Ok(manager));
         tampers(&mut rng, &manager.to_bytes(), PolySeg::from_bytes);
         let mut damaged = *manager.record();
-        match rng.below(5) {
+        match rng.below(6) {
             0 => damaged.free.segments[0].volume = 1 + rng.word() % 9,
             1 => damaged.polynome.coefficients[3] = i64::MIN,
             2 => damaged.polynome.offset = u64::MAX,
             3 => damaged.choices.mode = rng.word() | 4,
+            4 => damaged.choices.rule = rng.word() | 4,
             _ => damaged.delay_count = rng.word() as usize | 17,
         }
         refuses(damaged);

@@ -1,6 +1,11 @@
 //! Document 02's R-5 through the package: the second edition of the end rule,
 //! beside the first.
 
+mod common;
+
+use std::fmt::Debug;
+
+use common::{book, book_stated, offered, refuses};
 use howrekano::{
     Bundle, Choices, DelaySegment, FreeVolume, Interval, Manager, Offer, PrioritySeg, RateSegment,
     Record, Refusal, VolumeSegment,
@@ -13,7 +18,7 @@ const SECOND: Choices = edition(2);
 const NONE: [u64; 3] = [0, 3, u64::MAX];
 
 const fn edition(edition: u64) -> Choices {
-    Choices { edition }
+    Choices { edition, rule: 1 }
 }
 
 const fn bundle(size: u64, priority: u8) -> Bundle {
@@ -52,15 +57,8 @@ fn sent<R: Record>(
     size: u64,
     priority: u8,
 ) -> Result<(u64, u64), Refusal> {
-    let send = contact.dry_run(at, bundle(size, priority))?.send;
+    let send = offered(contact, at, bundle(size, priority))?.send;
     Ok((send.start, send.end))
-}
-
-/// Books what is offered, and says when it is sent.
-fn book<R: Record>(contact: &mut Manager<R>, at: u64, bundle: Bundle) -> Result<Interval, Refusal> {
-    let offer = contact.dry_run(at, bundle)?;
-    contact.book(at, bundle, offer)?;
-    Ok(offer.send)
 }
 
 fn volumes(contact: &FreeVolume) -> Vec<(u64, u64, u64)> {
@@ -189,20 +187,6 @@ fn an_edition_that_there_is_not_is_refused_before_all_else() {
     assert!(Refusal::CHOICE.to_string().contains("edition 1 or 2"));
 }
 
-/// Every total call refuses the record with 1 and leaves it as it came.
-fn refuses<R: Record + std::fmt::Debug>(record: R) {
-    let mut after = record;
-    assert!(!record.is_kept());
-    assert_eq!(Manager::from_record(record).err(), Some(Refusal::RECORD));
-    assert_eq!(record.listed().err(), Some(Refusal::RECORD));
-    assert_eq!(record.dry_run(3, bundle(15, 0)), Err(Refusal::RECORD));
-    // 1 goes before 2: a record's edition is its own, not the caller's.
-    assert_eq!(record.dry_run(3, bundle(0, 0)), Err(Refusal::RECORD));
-    let booked = after.book(3, bundle(15, 0), Offer::default());
-    assert_eq!(booked, Err(Refusal::RECORD));
-    assert_eq!(after, record);
-}
-
 #[test]
 fn a_record_of_an_edition_that_there_is_not_is_damaged() {
     for none in NONE {
@@ -293,17 +277,11 @@ fn listed_at(contact: &FreeVolume, tick: u64) -> usize {
 
 /// The kept type and the total calls on its record answer alike, and leave the
 /// same record.
-fn doors_agree<R: Record + std::fmt::Debug>(mut contact: Manager<R>, seed: u64) {
+fn doors_agree<R: Record + Debug>(mut contact: Manager<R>, seed: u64) {
     let mut booked = 0;
     for (at, bundle) in calls(seed).take(400) {
-        let mut record = *contact.record();
-        let offer = contact.dry_run(at, bundle);
-        assert_eq!(record.dry_run(at, bundle), offer);
-        let offer = offer.unwrap_or_default();
-        let answer = contact.book(at, bundle, offer);
-        assert_eq!(record.book(at, bundle, offer), answer);
-        assert_eq!(record, *contact.record());
-        assert!(record.is_kept());
+        let offer = offered(&contact, at, bundle).unwrap_or_default();
+        let answer = book_stated(&mut contact, at, bundle, offer);
         booked += u64::from(answer.is_ok());
     }
     assert!(booked > 5, "{booked} bookings say little");
@@ -331,7 +309,7 @@ fn a_free_volume_send_ends_with_its_final_unit() {
     for seed in 10..15 {
         let mut contact = free_pass();
         for (at, bundle) in calls(seed).take(300) {
-            if let Ok(send) = book(&mut contact, at, bundle) {
+            if let Ok(Offer { send, .. }) = book(&mut contact, at, bundle) {
                 ends_with_its_final_unit(send, bundle.size);
             }
         }
@@ -343,7 +321,7 @@ fn a_priority_send_does_too_and_no_empty_stretch_is_listed() {
     for seed in 20..25 {
         let mut contact = priority_pass();
         for (at, bundle) in calls(seed).take(300) {
-            if let Ok(send) = book(&mut contact, at, bundle) {
+            if let Ok(Offer { send, .. }) = book(&mut contact, at, bundle) {
                 ends_with_its_final_unit(send, bundle.size);
             }
             assert!(contact.list().iter().all(|s| s.start < s.end));
@@ -379,7 +357,7 @@ fn sizes_never_exceed_what_the_booked_ticks_carry() {
         let mut contact = free_pass();
         let mut booked = Vec::new();
         for (at, bundle) in calls(seed).take(300) {
-            let Ok(send) = book(&mut contact, at, bundle) else {
+            let Ok(Offer { send, .. }) = book(&mut contact, at, bundle) else {
                 continue;
             };
             booked.push((send, bundle.size));

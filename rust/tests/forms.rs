@@ -6,11 +6,8 @@ use howrekano::{
     PolynomialChoices, PrioritySeg, RateSegment, Record, Refusal,
 };
 
-const FIRST: Choices = Choices { edition: 1 };
-const SECOND: Choices = Choices { edition: 2 };
-
-const PORTED: PolynomialChoices = PolynomialChoices { mode: 1 };
-const EXACT: PolynomialChoices = PolynomialChoices { mode: 2 };
+/// Editions, or modes, and rules.
+const CHOSEN: [(u64, u64); 4] = [(1, 1), (1, 2), (2, 1), (2, 2)];
 
 const WINDOW: Interval = Interval { start: 0, end: 10 };
 const RATES: [RateSegment; 1] = [RateSegment {
@@ -30,10 +27,8 @@ const POLYNOME: Polynome = Polynome {
     offset: 1,
 };
 
-/// A record's choices, its edition or its mode, and its bytes from the window up
-/// to the list: those of contact A of document 01, and of the polynomial.
-const CHOSEN_1: &str = "01 0000000000000001";
-const CHOSEN_2: &str = "01 0000000000000002";
+/// A record's bytes from the window up to the list: those of contact A of document
+/// 01, and of the polynomial.
 const CONTACT: &str = "\
     0000000000000000 000000000000000a \
     01 0000000000000000 000000000000000a 0000000000000064 \
@@ -44,8 +39,8 @@ const POLYNOMIAL: &str = "\
     0000000000000001 \
     01 0000000000000000 000000000000000a 0000000000000003";
 
-/// What is listed after 10 units at 3, which is the same under both editions and
-/// in both modes.
+/// What is listed after 10 units at 3, which is the same under both editions, in
+/// both modes and under both rules.
 const FREE: &str = "\
     02 0000000000000000 0000000000000003 000000000000001e \
        0000000000000004 000000000000000a 000000000000003c";
@@ -57,6 +52,16 @@ const BOOKINGS: &str = "\
 const BARE: &str = "\
     02 0000000000000000 0000000000000003 0000000000000000 \
        0000000000000004 000000000000000a 0000000000000000";
+
+/// A record's choices: its edition or its mode, and its rule.
+fn named(choice: u64, rule: u64) -> String {
+    format!("02 {choice:016x} {rule:016x}")
+}
+
+/// The same as versions 0.3.0 and 0.4.0 wrote them, which had no rule.
+fn named_alone(choice: u64) -> String {
+    format!("01 {choice:016x}")
+}
 
 fn bytes(parts: &[&str]) -> Vec<u8> {
     let digits: Vec<u8> = parts
@@ -79,32 +84,37 @@ fn booked<R: Record>(mut contact: Manager<R>) -> Manager<R> {
     contact
 }
 
-fn free(choices: Choices) -> FreeVolume {
+fn free(edition: u64, rule: u64) -> FreeVolume {
+    let choices = Choices { edition, rule };
     booked(FreeVolume::open_with(choices, WINDOW, &RATES, &DELAYS).unwrap())
 }
 
-fn priority(choices: Choices) -> PrioritySeg {
+fn priority(edition: u64, rule: u64) -> PrioritySeg {
+    let choices = Choices { edition, rule };
     booked(PrioritySeg::open_with(choices, WINDOW, &RATES, &DELAYS).unwrap())
 }
 
-fn polynomial(choices: PolynomialChoices) -> PolySeg {
+fn polynomial(mode: u64, rule: u64) -> PolySeg {
+    let choices = PolynomialChoices { mode, rule };
     booked(PolySeg::open_with(choices, WINDOW, POLYNOME, &DELAYS).unwrap())
 }
 
 #[test]
 fn the_form_now_names_the_choices() {
-    for (choices, named) in [(FIRST, CHOSEN_1), (SECOND, CHOSEN_2)] {
+    for (choice, rule) in CHOSEN {
+        let named = &named(choice, rule);
         let written = bytes(&["21", named, CONTACT, FREE, ROOM]);
-        assert_eq!(free(choices).to_bytes(), written);
-        assert_eq!(FreeVolume::from_bytes(&written), Ok(free(choices)));
+        let contact = free(choice, rule);
+        assert_eq!(contact.to_bytes(), written);
+        assert_eq!(FreeVolume::from_bytes(&written), Ok(contact));
         let written = bytes(&["12", named, CONTACT, BOOKINGS]);
-        assert_eq!(priority(choices).to_bytes(), written);
-        assert_eq!(PrioritySeg::from_bytes(&written), Ok(priority(choices)));
-    }
-    for (choices, named) in [(PORTED, CHOSEN_1), (EXACT, CHOSEN_2)] {
+        let contact = priority(choice, rule);
+        assert_eq!(contact.to_bytes(), written);
+        assert_eq!(PrioritySeg::from_bytes(&written), Ok(contact));
         let written = bytes(&["13", named, POLYNOMIAL, BARE]);
-        assert_eq!(polynomial(choices).to_bytes(), written);
-        assert_eq!(PolySeg::from_bytes(&written), Ok(polynomial(choices)));
+        let contact = polynomial(choice, rule);
+        assert_eq!(contact.to_bytes(), written);
+        assert_eq!(PolySeg::from_bytes(&written), Ok(contact));
     }
 }
 
@@ -116,33 +126,41 @@ fn earlier_forms_are_read_with_the_originals_choices() {
     let without = bytes(&["01", CONTACT, FREE]);
     let bookings = bytes(&["02", CONTACT, BOOKINGS]);
     let bare = bytes(&["03", POLYNOMIAL, BARE]);
-    assert_eq!(FreeVolume::from_bytes(&with_room), Ok(free(FIRST)));
-    assert_eq!(FreeVolume::from_bytes(&without), Ok(free(FIRST)));
-    assert_eq!(PrioritySeg::from_bytes(&bookings), Ok(priority(FIRST)));
-    assert_eq!(PolySeg::from_bytes(&bare), Ok(polynomial(PORTED)));
+    assert_eq!(FreeVolume::from_bytes(&with_room), Ok(free(1, 1)));
+    assert_eq!(FreeVolume::from_bytes(&without), Ok(free(1, 1)));
+    assert_eq!(PrioritySeg::from_bytes(&bookings), Ok(priority(1, 1)));
+    assert_eq!(PolySeg::from_bytes(&bare), Ok(polynomial(1, 1)));
+}
+
+/// These choices, as written, are read as this edition or mode and rule 1.
+fn is_read_as(named: &str, choice: u64) {
+    let read = FreeVolume::from_bytes(&bytes(&["21", named, CONTACT, FREE, ROOM]));
+    assert_eq!(read, Ok(free(choice, 1)));
+    let read = PrioritySeg::from_bytes(&bytes(&["12", named, CONTACT, BOOKINGS]));
+    assert_eq!(read, Ok(priority(choice, 1)));
+    let read = PolySeg::from_bytes(&bytes(&["13", named, POLYNOMIAL, BARE]));
+    assert_eq!(read, Ok(polynomial(choice, 1)));
 }
 
 /// So bytes of this form stay readable when there is one more to choose.
 #[test]
 fn choices_that_are_not_written_are_the_originals() {
-    let unchosen = bytes(&["21", "00", CONTACT, FREE, ROOM]);
-    assert_eq!(FreeVolume::from_bytes(&unchosen), Ok(free(FIRST)));
-    let unchosen = bytes(&["12", "00", CONTACT, BOOKINGS]);
-    assert_eq!(PrioritySeg::from_bytes(&unchosen), Ok(priority(FIRST)));
-    let unchosen = bytes(&["13", "00", POLYNOMIAL, BARE]);
-    assert_eq!(PolySeg::from_bytes(&unchosen), Ok(polynomial(PORTED)));
+    is_read_as("00", 1);
+    is_read_as(&named_alone(1), 1);
+    is_read_as(&named_alone(2), 2);
 }
 
 #[test]
 fn choices_that_there_are_not_are_damage() {
-    let damaged = [
-        "01 0000000000000000",
-        "01 0000000000000003",
-        "01 ffffffffffffffff",
-        "02 0000000000000001 0000000000000001",
-        "ff 0000000000000001",
-    ];
-    for named in damaged {
+    const NONE: [u64; 3] = [0, 3, u64::MAX];
+    let alone = NONE.map(named_alone);
+    let first = NONE.map(|choice| named(choice, 1));
+    let rules = NONE.map(|rule| named(1, rule));
+    // One number more than there is to choose, and counts above the numbers.
+    let counts = [("03", 3), ("03", 2), ("ff", 2)];
+    let more =
+        counts.map(|(count, numbers)| format!("{count} {}", "0000000000000001".repeat(numbers)));
+    for named in &[&alone[..], &first, &rules, &more].concat() {
         let read = FreeVolume::from_bytes(&bytes(&["21", named, CONTACT, FREE, ROOM]));
         assert_eq!(read, Err(Refusal::RECORD), "{named}");
         let read = PrioritySeg::from_bytes(&bytes(&["12", named, CONTACT, BOOKINGS]));
@@ -150,6 +168,18 @@ fn choices_that_there_are_not_are_damage() {
         let read = PolySeg::from_bytes(&bytes(&["13", named, POLYNOMIAL, BARE]));
         assert_eq!(read, Err(Refusal::RECORD), "{named}");
     }
+}
+
+/// A record in bytes is tested by the rule that they name.
+#[test]
+fn a_polynomials_delays_cover_its_window_under_rule_2() {
+    let delay = "000000000000000a 0000000000000003";
+    let ends_early = POLYNOMIAL.replace(delay, "0000000000000009 0000000000000003");
+    assert_ne!(ends_early, POLYNOMIAL);
+    let read = |named: &str| PolySeg::from_bytes(&bytes(&["13", named, &ends_early, BARE]));
+    assert!(read(&named_alone(1)).is_ok());
+    assert!(read(&named(1, 1)).is_ok());
+    assert_eq!(read(&named(1, 2)), Err(Refusal::RECORD));
 }
 
 /// An earlier form passes the same test as any other record.
@@ -192,16 +222,19 @@ fn others(forms: &[u8]) -> Vec<u8> {
 #[test]
 fn cut_bytes_longer_ones_and_those_of_another_form_are_refused() {
     let free_forms = [
-        bytes(&["21", CHOSEN_2, CONTACT, FREE, ROOM]),
+        bytes(&["21", &named(2, 2), CONTACT, FREE, ROOM]),
+        bytes(&["21", &named_alone(2), CONTACT, FREE, ROOM]),
         bytes(&["11", CONTACT, FREE, ROOM]),
         bytes(&["01", CONTACT, FREE]),
     ];
     let priority_forms = [
-        bytes(&["12", CHOSEN_2, CONTACT, BOOKINGS]),
+        bytes(&["12", &named(2, 2), CONTACT, BOOKINGS]),
+        bytes(&["12", &named_alone(2), CONTACT, BOOKINGS]),
         bytes(&["02", CONTACT, BOOKINGS]),
     ];
     let polynomial_forms = [
-        bytes(&["13", CHOSEN_2, POLYNOMIAL, BARE]),
+        bytes(&["13", &named(2, 2), POLYNOMIAL, BARE]),
+        bytes(&["13", &named_alone(2), POLYNOMIAL, BARE]),
         bytes(&["03", POLYNOMIAL, BARE]),
     ];
     for whole in &free_forms {
@@ -228,7 +261,8 @@ fn cut_bytes_longer_ones_and_those_of_another_form_are_refused() {
 #[test]
 fn the_forms_of_a_polynomial_record_are_not_taken_for_each_other() {
     for mixed in [
-        bytes(&["03", CHOSEN_1, POLYNOMIAL, BARE]),
+        bytes(&["03", &named(1, 1), POLYNOMIAL, BARE]),
+        bytes(&["03", &named_alone(1), POLYNOMIAL, BARE]),
         bytes(&["13", POLYNOMIAL, BARE]),
     ] {
         assert_eq!(PolySeg::from_bytes(&mixed), Err(Refusal::RECORD));

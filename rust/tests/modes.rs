@@ -1,9 +1,11 @@
 //! Document 02's R-6 through the package: the polynomial manager's exact mode,
 //! beside the ported one.
 
+mod common;
+
+use common::{book, offered, refuses};
 use howrekano::{
-    Bundle, DelaySegment, Interval, Manager, Offer, PolySeg, Polynome, PolynomialChoices, Record,
-    Refusal,
+    Bundle, DelaySegment, Interval, Offer, PolySeg, Polynome, PolynomialChoices, Record, Refusal,
 };
 
 const PORTED: PolynomialChoices = mode(1);
@@ -13,7 +15,7 @@ const EXACT: PolynomialChoices = mode(2);
 const NONE: [u64; 4] = [0, 3, 255, u64::MAX];
 
 const fn mode(mode: u64) -> PolynomialChoices {
-    PolynomialChoices { mode }
+    PolynomialChoices { mode, rule: 1 }
 }
 
 const fn bundle(size: u64) -> Bundle {
@@ -41,27 +43,10 @@ fn opened(choices: PolynomialChoices, polynome: Polynome) -> PolySeg {
     PolySeg::open_with(choices, WINDOW, polynome, &DELAYS).unwrap()
 }
 
-/// What is offered, by both doors.
-fn offered(contact: &PolySeg, at: u64, size: u64) -> Result<Offer, Refusal> {
-    let offer = contact.dry_run(at, bundle(size));
-    assert_eq!(contact.record().dry_run(at, bundle(size)), offer);
-    offer
-}
-
 /// When a bundle is sent that is asked for at this time.
 fn sent(contact: &PolySeg, at: u64, size: u64) -> Result<(u64, u64), Refusal> {
-    let send = offered(contact, at, size)?.send;
+    let send = offered(contact, at, bundle(size))?.send;
     Ok((send.start, send.end))
-}
-
-/// Books what is offered, by both doors, and says when it is sent.
-fn book(contact: &mut PolySeg, at: u64, size: u64) -> Result<Interval, Refusal> {
-    let offer = offered(contact, at, size)?;
-    let mut record = *contact.record();
-    let booked = contact.book(at, bundle(size), offer);
-    assert_eq!(record.book(at, bundle(size), offer), booked);
-    assert_eq!(record, *contact.record());
-    booked.map(|()| offer.send)
 }
 
 fn listed(contact: &PolySeg) -> Vec<(u64, u64, u64)> {
@@ -78,7 +63,7 @@ fn case_10s_rate_of_ten_is_the_same_in_both_modes() {
         for size in [15, 20] {
             let mut contact = opened(choices, RATE_10);
             assert_eq!(sent(&contact, 3, size), Ok((3, 5)));
-            book(&mut contact, 3, size).unwrap();
+            book(&mut contact, 3, bundle(size)).unwrap();
             assert_eq!(listed(&contact), [(0, 3, 0), (5, 10, 0)]);
         }
     }
@@ -95,13 +80,13 @@ fn case_10s_line_carries_nothing_in_mode_1() {
 #[test]
 fn and_what_is_under_it_in_mode_2() {
     let mut contact = opened(EXACT, SLOPE_1);
-    let offer = offered(&contact, 0, 1).unwrap();
+    let offer = offered(&contact, 0, bundle(1)).unwrap();
     assert_eq!(offer.send, Interval { start: 0, end: 2 });
     assert_eq!(offer.recv, Interval { start: 3, end: 5 });
     assert_eq!(sent(&contact, 3, 1), Ok((3, 4)));
     assert_eq!(sent(&contact, 0, 50), Ok((0, 10)));
     assert_eq!(sent(&contact, 0, 51), Err(Refusal::NO_OFFER));
-    book(&mut contact, 0, 1).unwrap();
+    book(&mut contact, 0, bundle(1)).unwrap();
     assert_eq!(listed(&contact), [(2, 10, 0)]);
     assert_eq!(sent(&contact, 0, 48), Ok((2, 10)));
     assert_eq!(sent(&contact, 0, 49), Err(Refusal::NO_OFFER));
@@ -177,7 +162,7 @@ fn a_contact_keeps_its_mode() {
         let mut contact = opened(choices, polynome([3, 1, 0, 0], 0));
         assert_eq!(contact.choices(), choices);
         for (at, size) in [(3, 15), (0, 2), (8, 3), (0, 101)] {
-            let _ = book(&mut contact, at, size);
+            let _ = book(&mut contact, at, bundle(size));
             assert_eq!(contact.choices(), choices);
         }
     }
@@ -210,20 +195,6 @@ fn a_mode_that_there_is_not_is_refused_before_all_else() {
         }
     }
     assert!(Refusal::CHOICE.to_string().contains("mode 1 or 2"));
-}
-
-/// Every total call refuses the record with 1 and leaves it as it came.
-fn refuses<R: Record + std::fmt::Debug>(record: R) {
-    let mut after = record;
-    assert!(!record.is_kept());
-    assert_eq!(Manager::from_record(record).err(), Some(Refusal::RECORD));
-    assert_eq!(record.listed().err(), Some(Refusal::RECORD));
-    assert_eq!(record.dry_run(0, bundle(1)), Err(Refusal::RECORD));
-    // 1 goes before 2: a record's mode is its own, not the caller's.
-    assert_eq!(record.dry_run(0, bundle(0)), Err(Refusal::RECORD));
-    let booked = after.book(0, bundle(1), Offer::default());
-    assert_eq!(booked, Err(Refusal::RECORD));
-    assert_eq!(after, record);
 }
 
 #[test]
@@ -435,7 +406,7 @@ fn an_end_has_the_size_and_one_tick_earlier_less_unless_it_is_exact() {
             let (at, size) = random.call();
             let wanted = 12 * i128::from(size);
             let start = start_of(&contact, polynome, at, wanted);
-            let Ok(send) = book(&mut contact, at, size) else {
+            let Ok(Offer { send, .. }) = book(&mut contact, at, bundle(size)) else {
                 assert_eq!(start, None, "{polynome:?}: {size} at {at}");
                 refused += 1;
                 continue;
@@ -490,10 +461,10 @@ fn where_nothing_is_dropped_both_modes_answer_alike() {
         let [mut ported, mut exact] = [PORTED, EXACT].map(|choices| pass(choices, polynome));
         for _ in 0..60 {
             let (at, size) = random.call();
-            let sends = [&mut ported, &mut exact].map(|contact| book(contact, at, size));
-            assert_eq!(sends[0], sends[1], "{polynome:?}: {size} at {at}");
+            let offers = [&mut ported, &mut exact].map(|contact| book(contact, at, bundle(size)));
+            assert_eq!(offers[0], offers[1], "{polynome:?}: {size} at {at}");
             assert_eq!(ported.list(), exact.list());
-            booked += u64::from(sends[0].is_ok());
+            booked += u64::from(offers[0].is_ok());
         }
     }
     assert!(booked > 100, "{booked} bookings say little");

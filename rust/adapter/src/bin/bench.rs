@@ -16,7 +16,7 @@ use adapter::asabr::contact_manager::{ContactManager, ContactManagerTxData};
 use adapter::asabr::poly::Polynome;
 use adapter::asabr::types::{NodeID, TimeInterval};
 use adapter::{Adapts, Polynomial, Queueing, Rated};
-use howrekano::{Flags, Interval, Manager, Offer, PolynomialChoices, Refusal, record};
+use howrekano::{Flags, Interval, Manager, Offer, Refusal, record};
 
 const HELP: &str = "\
 bench: times dry runs, refused ones and bookings of the proved managers, by the kept
@@ -116,7 +116,7 @@ fn polynomial(listed: u64) -> Result<(), Refusal> {
     // has the same offers.
     for (mode, named) in [(1, ""), (2, ", mode 2")] {
         let mut record = *pair.ours.record();
-        record.choices = PolynomialChoices { mode };
+        record.choices.mode = mode;
         pair.ours = Manager::from_record(record)?;
         let name = format!("polynomial, {listed} listed{named}");
         pair.measure(&name, "dry run", last, TEN_TICKS);
