@@ -1,5 +1,5 @@
-/* Cases 1, 5, 8, 10 and 11 of document 01, 02's room, both editions of the end rule and both modes of the polynomial, from C, by both doors,
-   on the library as the kit compiles it for x86-64. */
+/* Cases 1, 5, 7, 8, 10 and 11 of document 01, 02's room, both editions of the end rule, both modes of the polynomial and both rules of the
+   delays, from C, by both doors, on the library as the kit compiles it for x86-64. */
 #include "howrekano.h"
 
 int printf(const char *, ...);
@@ -110,14 +110,21 @@ static void edition(hk_contact opening, uint64_t number)
     printf("damaged: %d %d\n", hk_free_dry_run(&m, 3, b).number, hk_priority_dry_run(&p, 3, b).number);
 }
 
-/* 2 goes before 3: no edition or mode, and no window */
+static void numbers(const char *what, const hk_contact *opening, const hk_polynomial_opening *line)
+{
+    printf("%s: %d %d %d\n", what, hk_free_open(opening).number, hk_priority_open(opening).number, hk_polynomial_open(line).number);
+}
+
+/* 2 goes before 3: no edition or mode, no rule, and no window */
 static void left_zero(void)
 {
     hk_contact opening = {{0}};
     hk_polynomial_opening line = {{0}};
-    printf("left zero: %d %d %d\n", hk_free_open(&opening).number, hk_priority_open(&opening).number, hk_polynomial_open(&line).number);
+    numbers("left zero", &opening, &line);
     opening.choices.edition = line.choices.mode = 1;
-    printf("but for the choices: %d %d %d\n", hk_free_open(&opening).number, hk_priority_open(&opening).number, hk_polynomial_open(&line).number);
+    numbers("but for the edition and the mode", &opening, &line);
+    opening.choices.rule = line.choices.rule = 1;
+    numbers("but for the choices", &opening, &line);
 }
 
 static void priority(const hk_contact *opening)
@@ -131,7 +138,7 @@ static void priority(const hk_contact *opening)
 /* case 10 by both doors: a rate of 10, then a line with slope 1, and that line with its offset 2^30 ticks away */
 static void mode(const hk_contact *c, uint64_t number)
 {
-    hk_polynomial_opening opening = {{.mode = number}, c->window, {{10, 0, 0, 0}, 0}, {c->delays[0]}, 1};
+    hk_polynomial_opening opening = {{.mode = number, .rule = 1}, c->window, {{10, 0, 0, 0}, 0}, {c->delays[0]}, 1};
     hk_polynomial_opened opened = hk_polynomial_open(&opening);
     hk_polynomial m = opened.manager;
     printf("mode %lu: %d, named %lu\n", number, opened.number, m.choices.mode);
@@ -151,6 +158,35 @@ static void mode(const hk_contact *c, uint64_t number)
     printf("offset 2^30: %d\n", hk_polynomial_open(&opening).number);
 }
 
+/* case 7 by both doors, of the three managers, then records with another rule; delays that leave a gap */
+static void rule(hk_contact opening, uint64_t number)
+{
+    opening.choices.rule = number;
+    opening.delays[0] = (hk_segment){0, 4, 10};
+    opening.delays[1] = (hk_segment){4, 10, 2};
+    opening.delay_count = 2;
+    hk_polynomial_opening flat = {{.mode = 1, .rule = number}, opening.window, {{10, 0, 0, 0}, 0}, {opening.delays[0], opening.delays[1]}, 2};
+    printf("rule %lu\n", number);
+    numbers("opened", &opening, &flat);
+    hk_free f = hk_free_open(&opening).manager;
+    hk_priority p = hk_priority_open(&opening).manager;
+    hk_polynomial m = hk_polynomial_open(&flat).manager;
+    printf("named: %lu %lu %lu\n", f.contact.choices.rule, p.contact.choices.rule, m.choices.rule);
+    if (f.contact.choices.rule == 0)
+        return;
+    hk_bundle b = {10, 0};
+    show("free, 10 at 4", hk_free_dry_run(&f, 4, b));
+    free_booked(&f, 4, b);
+    show("priority, 10 at 4", hk_priority_dry_run(&p, 4, b));
+    priority_booked(&p, 4, b);
+    show("polynomial, 10 at 4", hk_polynomial_dry_run(&m, 4, b));
+    polynomial_booked(&m, 4, b);
+    f.contact.choices.rule = p.contact.choices.rule = m.choices.rule = 3;
+    printf("damaged: %d %d %d\n", hk_free_dry_run(&f, 4, b).number, hk_priority_dry_run(&p, 4, b).number, hk_polynomial_dry_run(&m, 4, b).number);
+    opening.delays[1].start = flat.delays[1].start = 5;
+    numbers("a gap", &opening, &flat);
+}
+
 static void queue(const hk_contact *c)
 {
     hk_queue_opening opening = {c->window, 10, 2, 3, {true, true, false}, {0}};
@@ -168,7 +204,7 @@ static void queue(const hk_contact *c)
 
 int main(void)
 {
-    hk_contact opening = {{.edition = 1}, {0, 10}, {{0, 10, 10}}, 1, {{0, 10, 3}}, 1};
+    hk_contact opening = {{.edition = 1, .rule = 1}, {0, 10}, {{0, 10, 10}}, 1, {{0, 10, 3}}, 1};
     free_volume(&opening);
     rises(&opening);
     priority(&opening);
@@ -179,6 +215,9 @@ int main(void)
     mode(&opening, 1);
     mode(&opening, 2);
     mode(&opening, 3);
+    rule(opening, 1);
+    rule(opening, 2);
+    rule(opening, 3);
     left_zero();
     return 0;
 }

@@ -17,13 +17,17 @@ typedef struct { hk_segment segments[64]; size_t count; } hk_list;
 typedef struct { uint8_t number; hk_list list; } hk_listing;
 
 /* What an opening of the free-volume or the priority manager chooses and the record names; no booking changes it. Write each by its name,
-   { .edition = 1 } for what the original has: an opening that is left zero is refused with 2, before all else, as is one with a choice that
-   there is not; a record that names one is damaged, and refused with 1.
+   { .edition = 1, .rule = 1 } for what the original has: an opening that is left zero is refused with 2, before all else, as is one with a choice
+   that there is not; a record that names one is damaged, and refused with 1.
    The edition, 1 or 2, is that of the end rule. Both look at the first tick by which the rates, added up from the send's start, reach the
    size. 1, the original's, ends the send there if the sum is exactly the size, and a tick earlier if it is more: the booked ticks can then
    carry less than the size, and a bundle smaller than what one tick carries is sent in no time. 2 ends it there in any case, when its final
-   unit has left; a booking at a free segment's start then lists what the rest carries, and sizes never exceed what the booked ticks carry */
-typedef struct { uint64_t edition; } hk_choices;
+   unit has left; a booking at a free segment's start then lists what the rest carries, and sizes never exceed what the booked ticks carry.
+   The rule, 1 or 2, is that of the delays: whose is the tick at which one delay segment ends and the next starts? 1, the original's, gives it to
+   the one that ends there: a date has the first segment whose end is not before it, and the lookup of a send's end goes on from its start's
+   segment. 2 gives it to the one that starts there: a date has the segment with start <= date < end, and the window's end has the last segment.
+   Only sends that start or end on such a tick inside the window are received at other times; sends and lists do not depend on the rule */
+typedef struct { uint64_t edition, rule; } hk_choices;
 
 /* the free-volume and the priority manager; in a record a rate stands as a volume, its rate times its length */
 typedef struct {
@@ -64,15 +68,17 @@ uint8_t hk_priority_book_kept(hk_interval window, const uint64_t *rates, size_t 
 hk_room hk_free_room(const hk_free *m);
 uint64_t hk_free_room_kept(const hk_free *m);
 
-/* What an opening of the polynomial manager chooses and the record names; no booking changes it. Write it by its name, { .mode = 1 } for what the
-   original has: as with hk_choices, an opening with a choice that there is not, or left zero, is refused with 2, before all else, and a record
-   that names one with 1.
+/* What an opening of the polynomial manager chooses and the record names; no booking changes it. Write each by its name, { .mode = 1, .rule = 1 }
+   for what the original has: as with hk_choices, an opening with a choice that there is not, or left zero, is refused with 2, before all else, and
+   a record that names one with 1.
    The mode, 1 or 2, is how the capacity of a send, the integral of the rate, is counted. 1, the original's, divides each coefficient for the
    integral and drops the fraction: a rate that is a slope of 1 alone carries nothing. 2 takes the true integral, in twelfths: the end has exactly
    the size, or it has more and one tick earlier has less; where the rate is not below 0 at any tick or half tick of the window, and above 0 at
    every tick, it is the first tick that has the size. Twelve times the figures must stay within the same 2^61, so a polynomial that opens in mode
-   1 can be 11 in mode 2: put the offset in or near the window (a slope of 1 opens with an offset 2^29 ticks away, and is 11 with one 2^30 away) */
-typedef struct { uint64_t mode; } hk_polynomial_choices;
+   1 can be 11 in mode 2: put the offset in or near the window (a slope of 1 opens with an offset 2^29 ticks away, and is 11 with one 2^30 away).
+   The rule is that of hk_choices. Under 1 the delays need not cover the window, nor be in order, and a send for which a lookup finds none is 8.
+   Under 2 they cover exactly the window, as the other managers' do under both, else the opening is 5; no call then answers 8 */
+typedef struct { uint64_t mode, rule; } hk_polynomial_choices;
 
 /* the polynomial manager */
 typedef struct { int64_t coefficients[4]; uint64_t offset; } hk_polynome;
