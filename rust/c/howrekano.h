@@ -26,7 +26,7 @@ typedef struct { uint8_t number; hk_list list; } hk_listing;
    The rule, 1 or 2, is that of the delays: whose is the tick at which one delay segment ends and the next starts? 1, the original's, gives it to
    the one that ends there: a date has the first segment whose end is not before it, and the lookup of a send's end goes on from its start's
    segment. 2 gives it to the one that starts there: a date has the segment with start <= date < end, and the window's end has the last segment.
-   Only sends that start or end on such a tick inside the window are received at other times; sends and lists do not depend on the rule */
+   The two can differ only for sends that start or end on such a tick, and only in when these are received */
 typedef struct { uint64_t edition, rule; } hk_choices;
 
 /* the free-volume and the priority manager; in a record a rate stands as a volume, its rate times its length */

@@ -73,10 +73,10 @@ pub trait Chosen: Copy + Default {
 ///   that switches its antenna on that tick has the later delay for a send that
 ///   starts there, and for one that ends there.
 ///
-/// Only sends that start or end on such a tick inside the window are received at
-/// other times: the window's start has the first segment's delay under both rules,
-/// and its end the last one's. When a bundle is sent, and what is listed, does not
-/// depend on the rule.
+/// The two can differ only for sends that start or end on such a tick, and only in
+/// when these are received: when a bundle is sent, and what is listed, does not
+/// depend on the rule. The window's start has the first segment's delay under both,
+/// and its end the last one's.
 ///
 /// Document 01's case 7, where the delay falls at 4, and sends around it:
 ///
