@@ -1,13 +1,13 @@
 -- 02, R-4: on segments that cover the window each date of it has one segment under rule 2, a later date none before it, and the lookups find it.
 use Prim.Native.Nat.{ℕ, zero, suc, _+_, _-_, _<_, _≤_}
-use mathlib.Core.Bool.{Bool, true, false}
+use mathlib.Core.Bool.{true, false}
 use mathlib.Core.Path.{_≡_, refl, sym, ap, _∙_}
 use mathlib.Core.List.{List, [], _∷_}
 use mathlib.Core.Logic.{⊎-elim, _⊎_, inl, inr}
 use native.Mathlib.Omega.{arith}
 use lib.Dec.{leb, ltb, eqb}
 use lib.ListN.{length, getD, drop}
-use borrow.Author.Tests.{eqb-true, leb-true, leb-false, ltb-false, le-leb, lt-leb, le-ltb}
+use borrow.Author.Tests.{eqb-true, leb-false, ltb-false, le-leb, lt-leb, le-ltb}
 use Rattle.units.specs.Logic.{pick}
 use Rattle.units.proofs.Logic.{no-both, both-go, pick-keeps}
 use Rattle.units.proofs.Numbers.{le-or-lt, eq-or-ne}

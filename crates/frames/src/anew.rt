@@ -1,8 +1,9 @@
-// What an opening's line opens, on a line of the right length: the source's choices, but for the rule.
+// What an opening's line opens, on a line of the right length.
 use legacy::Queue;
 use poly_seg::PolySeg;
 use pseg::PrioritySeg;
 use seg::FreeVolume;
+use segmentation::Rule;
 ghost use mathlib.Core.Path.{_≡_};
 ghost use mathlib.Core.Bool.{true};
 ghost use Rattle.seg.specs.Record.{recordOk as freeOk};
@@ -12,7 +13,30 @@ ghost use Rattle.legacy.specs.Record.{recordOk as queueOk};
 ghost use Rattle.layout.specs.Opening.{openingOf};
 ghost use Rattle.layout.specs.Polynomial.{polynomialOf};
 ghost use Rattle.layout.specs.Queue.{queueOf};
-ghost use Rattle.frames.specs.Opening.{freeOpened, priorityOpened, polynomialOpened, queueOpened};
+ghost use Rattle.frames.specs.Opening.{choosing, choosingPolynomial, freeOpened, priorityOpened, polynomialOpened, queueOpened};
+
+// A frame states its rule, and nothing else of what an opening chooses.
+fn choosing(rule: Rule) -> contact::Choices
+    ensures { λ r. ⌜ r ≡ choosing rule ⌝ }
+{
+    let ported = contact::Choices::ported();
+    let edition = ported.edition;
+    contact::Choices {
+        edition: edition,
+        rule: rule,
+    }
+}
+
+fn choosing_polynomial(rule: Rule) -> poly_seg::Choices
+    ensures { λ r. ⌜ r ≡ choosingPolynomial rule ⌝ }
+{
+    let ported = poly_seg::Choices::ported();
+    let mode = ported.mode;
+    poly_seg::Choices {
+        mode: mode,
+        rule: rule,
+    }
+}
 
 pub fn free(line: &[u8]) -> seg::Opened
     ensures { λ r. ⌜ r ≡ freeOpened (openingOf (now (line .entry))) ⌝ ∗ ⌜ (r .number ≡ 0 → freeOk (r .manager) ≡ true) ⌝ }
@@ -24,12 +48,7 @@ pub fn free(line: &[u8]) -> seg::Opened
     let delays = f.delays;
     let delay_count = f.delay_count;
     let rule = f.rule;
-    let ported = contact::Choices::ported();
-    let edition = ported.edition;
-    let choices = contact::Choices {
-        edition: edition,
-        rule: rule,
-    };
+    let choices = choosing(rule);
     FreeVolume::open(choices, window, rates, rate_count, delays, delay_count)
 }
 
@@ -43,12 +62,7 @@ pub fn priority(line: &[u8]) -> pseg::Opened
     let delays = f.delays;
     let delay_count = f.delay_count;
     let rule = f.rule;
-    let ported = contact::Choices::ported();
-    let edition = ported.edition;
-    let choices = contact::Choices {
-        edition: edition,
-        rule: rule,
-    };
+    let choices = choosing(rule);
     PrioritySeg::open(choices, window, rates, rate_count, delays, delay_count)
 }
 
@@ -61,12 +75,7 @@ pub fn polynomial(line: &[u8]) -> poly_seg::Opened
     let delays = f.delays;
     let delay_count = f.delay_count;
     let rule = f.rule;
-    let ported = poly_seg::Choices::ported();
-    let mode = ported.mode;
-    let choices = poly_seg::Choices {
-        mode: mode,
-        rule: rule,
-    };
+    let choices = choosing_polynomial(rule);
     PolySeg::open(choices, window, polynome, delays, delay_count)
 }
 

@@ -34,7 +34,7 @@ use Rattle.seg.specs.declared.RoomLeft.{RoomLeft}
 use Rattle.seg.specs.Record.{recordOk}
 use Rattle.seg.specs.Open.{openedOf, openOf}
 use Rattle.seg.specs.DryRun.{foundOf, answerTo, dryRunOf}
-use Rattle.seg.specs.Book.{refusedBooking, cutFree, bookedOf, bookedAt, bookOf}
+use Rattle.seg.specs.Book.{refusedBooking, cutFree, bookedAt, bookOf}
 use Rattle.seg.specs.List.{listOf}
 use Rattle.seg.specs.Room.{roomAnswer}
 use Rattle.seg.proofs.Facts.{facts, found-answers}

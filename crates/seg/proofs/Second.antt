@@ -16,7 +16,7 @@ use Rattle.units.proofs.Loads.{asked-load, load}
 use Rattle.units.proofs.Booking.{answer-done}
 use Rattle.segmentation.specs.declared.RateSegment.{RateSegment}
 use Rattle.segmentation.specs.declared.DelaySegment.{DelaySegment}
-use Rattle.segmentation.specs.Capacity.{capacity, topOf}
+use Rattle.segmentation.specs.Capacity.{capacity}
 use Rattle.segmentation.proofs.EndLaws.{end-after}
 use Rattle.contact.specs.declared.Choices.{Choices}
 use Rattle.contact.specs.Open.{totalOf, contactOf}
@@ -28,7 +28,6 @@ use Rattle.free_list.specs.declared.Found.the-variants.{At, None}
 use Rattle.free_list.specs.Cut.{listed, cutOf, wholeWindow}
 use Rattle.free_list.specs.Room.{listedCapacity, Exactly}
 use Rattle.free_list.proofs.Offered.{offer-picked, place-get}
-use Rattle.free_list.proofs.CutLaws.{offered-by}
 use Rattle.free_list.proofs.CutList.{listed-in}
 use Rattle.free_list.proofs.Second.{cut-exactly, exactly-room}
 use Rattle.seg.specs.declared.FreeVolume.{FreeVolume}
@@ -36,7 +35,7 @@ use Rattle.seg.specs.Record.{recordOk}
 use Rattle.seg.specs.Open.{openOf}
 use Rattle.seg.specs.DryRun.{foundOf, answerTo, dryRunOf}
 use Rattle.seg.specs.Book.{bookOf}
-use Rattle.seg.proofs.Facts.{Facts, facts, found-offered, found-answers}
+use Rattle.seg.proofs.Facts.{Facts, facts, found-answers}
 use Rattle.seg.proofs.Kept.{opened-manager, opened-contact, opened-full, Refused, Accepted, book-cases}
 use Rattle.seg.proofs.RoomBounds.{listedTime, booked-falls}
 

@@ -1,20 +1,20 @@
 -- What may be used of the delays: where they are found, that they are short, and the answer made of them.
 use Prim.Native.Nat.{ℕ, _+_, _<_, _≤_}
 use mathlib.Core.Bool.{Bool, true, false}
-use mathlib.Core.Path.{_≡_, refl, sym, ap, _∙_}
+use mathlib.Core.Path.{_≡_, refl, sym, _∙_}
 use mathlib.Core.List.{List, [], _∷_}
-use mathlib.Core.Logic.{⊎-elim, _⊎_, inl, inr}
+use mathlib.Core.Logic.{⊎-elim, _⊎_}
 use native.Mathlib.Omega.{arith}
 use lib.Dec.{leb, ltb, eqb}
 use lib.ListN.{length}
-use borrow.Author.Tests.{le-leb, lt-leb, leb-true, leb-false, lt-ltb, eq-eqb, ne-eqb}
+use borrow.Author.Tests.{le-leb, leb-true, leb-false, lt-ltb, eq-eqb, ne-eqb}
 use Rattle.units.specs.Limits.{delayMax}
 use Rattle.units.specs.Logic.{both, pick}
 use Rattle.units.specs.Answer.{interval, refused}
 use Rattle.units.specs.declared.Delay.{Delay}
 use Rattle.units.specs.declared.Interval.{Interval}
 use Rattle.units.specs.declared.Offer.{Offer}
-use Rattle.units.proofs.Logic.{both-go, both-fst, both-snd, both-yes, no-both, pick-keeps}
+use Rattle.units.proofs.Logic.{both-yes, no-both, pick-keeps}
 use Rattle.segmentation.specs.declared.DelaySegment.{DelaySegment}
 use Rattle.segmentation.specs.declared.Delays.{Delays}
 use Rattle.segmentation.specs.declared.Delays.the-variants.{Of, None}

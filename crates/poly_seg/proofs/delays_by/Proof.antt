@@ -1,7 +1,7 @@
 -- `poly_seg::delays_by` meets its contract.
 use borrow.Author.Needs.{needs}
 use borrow.Author.Tests.{eq-eqb, ne-eqb}
-use mathlib.Core.Path.{_≡_, sym, _∙_}
+use mathlib.Core.Path.{sym, _∙_}
 use Rattle.poly_seg.proofs.Lookup.{by-second, by-first}
 use Rattle.poly_seg.proofs.delays_by.Statement.{statement}
 use Rattle.poly_seg.proofs.delays_by.Tie as tie

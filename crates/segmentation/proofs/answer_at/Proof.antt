@@ -1,6 +1,5 @@
 -- `segmentation::answer_at` meets its contract: the delays looked up are short.
 use borrow.Author.Needs.{needs}
-use Prim.Native.Nat.{ℕ}
 use mathlib.Core.Path.{_∙_, ap}
 use Rattle.segmentation.specs.declared.Delays.{Delays}
 use Rattle.segmentation.specs.Delay.{answerOf}

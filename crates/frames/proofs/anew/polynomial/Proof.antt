@@ -13,8 +13,8 @@ use Rattle.frames.proofs.anew.polynomial.Tie as tie
 read-requires : tie.Need-read-requires
 read-requires c κs = search needs
 
-ported-requires : tie.Need-ported-requires
-ported-requires c κs = search needs
+choosing-polynomial-requires : tie.Need-choosing-polynomial-requires
+choosing-polynomial-requires c κs = search needs
 
 open-requires : tie.Need-open-requires
 open-requires c κs = search needs
@@ -22,12 +22,12 @@ open-requires c κs = search needs
 returns : tie.Need-returns
 unfolding polynomialOpened
 returns c =
-    let f = c .before .before .before .before .before .before .before .read .result in
+    let f = c .before .before .before .before .before .before .read .result in
     let is =
     c .«open» .ensures
-    ∙ ap (λ (h : Choices). openOf (record { mode = h .mode; rule = f .rule }) (f .window) (f .polynome) (f .delays) (f .«delay_count»)) (c .before .before .ported .ensures)
-    ∙ ap polynomialOpened (c .before .before .before .before .before .before .before .read .ensures) in
+    ∙ ap (λ (h : Choices). openOf h (f .window) (f .polynome) (f .delays) (f .«delay_count»)) (c .before .choosing-polynomial .ensures)
+    ∙ ap polynomialOpened (c .before .before .before .before .before .before .read .ensures) in
     (is, λ z. ap (λ (o : Opened). recordOk (o .manager)) is ∙ polynomial-opened _ (sym (ap (λ (o : Opened). o .number) is) ∙ z))
 
 pub polynomial-spec : {M : Type 1} → statement M
-polynomial-spec = tie.close (tie.spec read-requires ported-requires open-requires returns)
+polynomial-spec = tie.close (tie.spec read-requires choosing-polynomial-requires open-requires returns)

@@ -13,8 +13,8 @@ use Rattle.frames.proofs.anew.priority.Tie as tie
 read-requires : tie.Need-read-requires
 read-requires c κs = search needs
 
-ported-requires : tie.Need-ported-requires
-ported-requires c κs = search needs
+choosing-requires : tie.Need-choosing-requires
+choosing-requires c κs = search needs
 
 open-requires : tie.Need-open-requires
 open-requires c κs = search needs
@@ -22,12 +22,12 @@ open-requires c κs = search needs
 returns : tie.Need-returns
 unfolding priorityOpened
 returns c =
-    let f = c .before .before .before .before .before .before .before .read .result in
+    let f = c .before .before .before .before .before .before .read .result in
     let is =
     c .«open» .ensures
-    ∙ ap (λ (h : Choices). openOf (record { edition = h .edition; rule = f .rule }) (f .window) (f .rates) (f .«rate_count») (f .delays) (f .«delay_count»)) (c .before .before .ported .ensures)
-    ∙ ap priorityOpened (c .before .before .before .before .before .before .before .read .ensures) in
+    ∙ ap (λ (h : Choices). openOf h (f .window) (f .rates) (f .«rate_count») (f .delays) (f .«delay_count»)) (c .before .choosing .ensures)
+    ∙ ap priorityOpened (c .before .before .before .before .before .before .read .ensures) in
     (is, λ z. ap (λ (o : Opened). recordOk (o .manager)) is ∙ priority-opened _ (sym (ap (λ (o : Opened). o .number) is) ∙ z))
 
 pub priority-spec : {M : Type 1} → statement M
-priority-spec = tie.close (tie.spec read-requires ported-requires open-requires returns)
+priority-spec = tie.close (tie.spec read-requires choosing-requires open-requires returns)

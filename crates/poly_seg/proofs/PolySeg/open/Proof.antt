@@ -1,6 +1,6 @@
 -- `poly_seg::PolySeg::open` meets its contract: refused with the opening's number, or put together of its parts.
 use borrow.Author.Needs.{needs}
-use mathlib.Core.Path.{_≡_, sym, _∙_}
+use mathlib.Core.Path.{sym, _∙_}
 use Rattle.poly_seg.proofs.Lookup.{delays-most}
 use Rattle.poly_seg.proofs.Opening.{Passed, open-passed, open-refused, open-parts}
 use Rattle.poly_seg.proofs.PolySeg.open.Statement.{statement}

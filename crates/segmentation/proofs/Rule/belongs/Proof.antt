@@ -1,6 +1,6 @@
 -- `segmentation::Rule::belongs` meets its contract, test by test.
 use borrow.Author.Tests.{eq-eqb, ne-eqb, le-leb, lt-leb}
-use mathlib.Core.Path.{_≡_, sym, _∙_}
+use mathlib.Core.Path.{sym, _∙_}
 use Rattle.units.proofs.Logic.{both-go, both-stop}
 use Rattle.segmentation.proofs.DelayLaws.{belongs-first, belongs-second, lies-last, lies-before}
 use Rattle.segmentation.proofs.Rule.belongs.Statement.{statement}

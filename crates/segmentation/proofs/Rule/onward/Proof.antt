@@ -1,6 +1,5 @@
 -- `segmentation::Rule::onward` meets its contract.
 use borrow.Author.Tests.{eq-eqb, ne-eqb}
-use mathlib.Core.Path.{_≡_}
 use Rattle.segmentation.proofs.Rule.onward.Statement.{statement}
 use Rattle.segmentation.proofs.Rule.onward.Tie as tie
 
