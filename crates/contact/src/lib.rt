@@ -186,6 +186,7 @@ impl Contact {
         let rule = choices.rule;
         let delays = self.delays;
         let k = self.delay_count;
-        segmentation::answer_at(rule, delays, k, send)
+        let found = segmentation::find_delays(rule, delays, k, send);
+        segmentation::answer(send, found)
     }
 }

@@ -1,14 +1,15 @@
--- The opening, refusal by refusal: its number where a test is known, what the number 0 tells, and what another is refused with.
+-- The opening by its number: by the test of the delays, what the number 0 tells, and what another is refused with.
 use Prim.Native.Nat.{ℕ}
-use mathlib.Core.Bool.{true, false}
-use mathlib.Core.Path.{_≡_, sym, ap, _∙_}
+use mathlib.Core.Bool.{Bool, true, false}
+use mathlib.Core.Path.{_≡_, refl, sym, ap, _∙_}
 use mathlib.Core.List.{List, [], _∷_}
 use native.Mathlib.Omega.{arith}
 use lib.ListN.{take}
 use Rattle.units.specs.declared.Interval.{Interval}
 use Rattle.units.specs.Limits.{segmentsMax, windowOk}
+use Rattle.units.specs.Logic.{unless}
 use Rattle.units.specs.Arrays.{padded}
-use Rattle.units.proofs.Logic.{unless-go, unless-stop, unless-keeps}
+use Rattle.units.proofs.Logic.{unless-go, unless-keeps}
 use Rattle.segmentation.specs.declared.DelaySegment.{DelaySegment}
 use Rattle.contact.specs.Segments.{zeroDelay}
 use Rattle.free_list.specs.declared.FreeList.{FreeList}
@@ -19,6 +20,7 @@ use Rattle.poly_seg.specs.declared.Choices.{Choices}
 use Rattle.poly_seg.specs.declared.Opened.{Opened}
 use Rattle.poly_seg.specs.Choices.{choicesOk}
 use Rattle.poly_seg.specs.Open.{delaysBy, refusedOpening, openOf}
+use Rattle.poly_seg.specs.Granted.{numberBy}
 
 -- each test holds, and the answer where nothing is refused
 pub record Passed (h : Choices) (w : Interval) (p : Polynome) (delays : List DelaySegment) (k : ℕ) : Type 0 where
@@ -35,33 +37,25 @@ module _ (h : Choices) (w : Interval) (p : Polynome) (delays : List DelaySegment
   abbrev pub opened : Opened
   opened = openOf h w p delays k
 
-  numbered : {x y : Opened} → x ≡ y → x .number ≡ y .number
-  numbered e = ap (λ (o : Opened). o .number) e
+  pushed : (a b c d : Bool) (x : Opened) → x .number ≡ 0
+      → unless a (refusedOpening 2) (unless b (refusedOpening 3) (unless c (refusedOpening 5) (unless d (refusedOpening 11) x))) .number ≡ unless a 2 (unless b 3 (unless c 5 (unless d 11 0)))
+  pushed true true true true x z = z
+  pushed true true true false x z = refl
+  pushed true true false d x z = refl
+  pushed true false c d x z = refl
+  pushed false b c d x z = refl
 
-  pub open-choices : choicesOk h ≡ false → opened .number ≡ 2
-  unfolding openOf
-  open-choices e = numbered (unless-stop _ _ _ e)
-
-  module _ (h0 : choicesOk h ≡ true) where
-    pub open-window : windowOk w ≡ false → opened .number ≡ 3
-    unfolding openOf
-    open-window e = numbered (unless-go _ _ _ h0 ∙ unless-stop _ _ _ e)
-
-    module _ (h1 : windowOk w ≡ true) where
-      pub open-delays : delaysBy (h .rule .0) w k delays ≡ false → opened .number ≡ 5
-      unfolding openOf
-      open-delays e = numbered (unless-go _ _ _ h0 ∙ unless-go _ _ _ h1 ∙ unless-stop _ _ _ e)
-
-      pub open-polynome : delaysBy (h .rule .0) w k delays ≡ true → polyOk (h .mode .0) p w ≡ false → opened .number ≡ 11
-      unfolding openOf
-      open-polynome h2 e = numbered (unless-go _ _ _ h0 ∙ unless-go _ _ _ h1 ∙ unless-go _ _ _ h2 ∙ unless-stop _ _ _ e)
+  -- its number, by the test of the delays
+  pub open-number : opened .number ≡ numberBy h w p (delaysBy (h .rule .0) w k delays)
+  unfolding openOf numberBy
+  open-number = pushed (choicesOk h) (windowOk w) (delaysBy (h .rule .0) w k delays) (polyOk (h .mode .0) p w) _ refl
 
   pub open-done : Passed h w p delays k → opened ≡ doneOf h w p (padded segmentsMax zeroDelay (take k delays)) k (listIn (wholeWindow w 0 ∷ []))
   unfolding openOf
   open-done t = unless-go _ _ _ (t .choices) ∙ unless-go _ _ _ (t .window) ∙ unless-go _ _ _ (t .delay) ∙ unless-go _ _ _ (t .polynome)
 
   pub open-zero : Passed h w p delays k → opened .number ≡ 0
-  open-zero t = numbered (open-done t)
+  open-zero t = ap (λ (o : Opened). o .number) (open-done t)
 
   -- the answer that is put together of these parts
   pub open-parts : Passed h w p delays k → (ds : List DelaySegment) → ds ≡ padded segmentsMax zeroDelay (take k delays)

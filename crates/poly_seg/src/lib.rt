@@ -37,7 +37,7 @@ ghost use Rattle.poly_seg.specs.Record.{recordOk, answerIn};
 ghost use Rattle.poly_seg.specs.DryRun.{endIn, foundOf, dryRunOf};
 ghost use Rattle.poly_seg.specs.Book.{bookOf, cutFree, refusedBooking};
 ghost use Rattle.poly_seg.specs.List.{listOf};
-ghost use Rattle.poly_seg.specs.Granted.{chosenOf};
+ghost use Rattle.poly_seg.specs.Granted.{numberBy, chosenOf};
 
 // What an opening chooses and the record names: the mode in which capacity is counted and the rule of the delays.
 #[repr(C)]
@@ -259,15 +259,9 @@ impl PolySeg {
         }
     }
 
-    // The number of an opening with these figures, which a record's own are held to: 2 for a choice that there is not, then 3, 5, 11 in this order.
-    fn opening(
-        choices: Choices,
-        window: Interval,
-        polynome: Polynome,
-        delays: [DelaySegment; DelaySegment::COUNT_MAX],
-        delay_count: usize,
-    ) -> u8
-        ensures { λ r. ⌜ r ≡ openOf choices window polynome delays «delay_count» .number ⌝ }
+    // The number of an opening with these figures, which a record's own are held to: 2 for a choice that there is not, 3, 5 where the delays do not hold, 11, in this order.
+    fn opening(choices: Choices, window: Interval, polynome: Polynome, held: bool) -> u8
+        ensures { λ r. ⌜ r ≡ numberBy choices window polynome held ⌝ }
     {
         if !choices.ok() {
             return units::refusal::CHOICE;
@@ -275,7 +269,7 @@ impl PolySeg {
         if !window.is_window() {
             return units::refusal::WINDOW;
         }
-        if !delays_by(choices.rule, window, delays, delay_count) {
+        if !held {
             return units::refusal::DELAYS;
         }
         if !polynome.ok(choices.mode, window) {
@@ -294,7 +288,8 @@ impl PolySeg {
     ) -> Opened
         ensures { λ r. ⌜ r ≡ openOf choices window polynome delays «delay_count» ⌝ }
     {
-        let number = PolySeg::opening(choices, window, polynome, delays, delay_count);
+        let held = delays_by(choices.rule, window, delays, delay_count);
+        let number = PolySeg::opening(choices, window, polynome, held);
         if number != 0 {
             return PolySeg::refused_opening(number);
         }
@@ -325,7 +320,8 @@ impl PolySeg {
         let free = self.free;
         let segments = free.segments;
         let n = free.count;
-        if PolySeg::opening(choices, window, polynome, delays, k) != 0 {
+        let held = delays_by(choices.rule, window, delays, k);
+        if PolySeg::opening(choices, window, polynome, held) != 0 {
             return false;
         }
         if !contact::test::delays_unused(delays, k) {
@@ -383,7 +379,8 @@ impl PolySeg {
         let rule = choices.rule;
         let delays = self.delays;
         let k = self.delay_count;
-        segmentation::answer_at(rule, delays, k, send)
+        let found = segmentation::find_delays(rule, delays, k, send);
+        segmentation::answer(send, found)
     }
 
     // What a dry run finds on a record that keeps its rules: its answer, and where it comes from.

@@ -1,20 +1,20 @@
 -- What may be used of the delays: where they are found, that they are short, and the answer made of them.
 use Prim.Native.Nat.{ℕ, _+_, _<_, _≤_}
 use mathlib.Core.Bool.{Bool, true, false}
-use mathlib.Core.Path.{_≡_, refl, sym, _∙_}
+use mathlib.Core.Path.{_≡_, refl, sym, ap, _∙_}
 use mathlib.Core.List.{List, [], _∷_}
 use mathlib.Core.Logic.{⊎-elim, _⊎_}
 use native.Mathlib.Omega.{arith}
 use lib.Dec.{leb, ltb, eqb}
 use lib.ListN.{length}
-use borrow.Author.Tests.{le-leb, leb-true, leb-false, lt-ltb, eq-eqb, ne-eqb}
+use borrow.Author.Tests.{le-leb, lt-leb, le-ltb, leb-true, leb-false, lt-ltb, eq-eqb, ne-eqb}
 use Rattle.units.specs.Limits.{delayMax}
 use Rattle.units.specs.Logic.{both, pick}
 use Rattle.units.specs.Answer.{interval, refused}
 use Rattle.units.specs.declared.Delay.{Delay}
 use Rattle.units.specs.declared.Interval.{Interval}
 use Rattle.units.specs.declared.Offer.{Offer}
-use Rattle.units.proofs.Logic.{both-yes, no-both, pick-keeps}
+use Rattle.units.proofs.Logic.{both-yes, both-go, both-not, no-both, pick-keeps}
 use Rattle.segmentation.specs.declared.DelaySegment.{DelaySegment}
 use Rattle.segmentation.specs.declared.Delays.{Delays}
 use Rattle.segmentation.specs.declared.Delays.the-variants.{Of, None}
@@ -32,6 +32,15 @@ module _ (rule t : ℕ) (d : DelaySegment) where
   unfolding belongs
   belongs-second n h = simp h
 
+  pub belongs-past : (n : ℕ) → d .end .0 < t → belongs rule t d n ≡ false
+  unfolding belongs
+  belongs-past n h =
+      let out : leb t (d .end .0) ≡ false = lt-leb _ _ h in
+      pick-keeps (λ (b : Bool). b ≡ false) (eqb rule 2) (liesIn t d n) (leb t (d .end .0))
+      (λ c. both-not (leb (d .start .0) t) _
+      (pick-keeps (λ (b : Bool). b ≡ false) (eqb n 0) (leb t (d .end .0)) (ltb t (d .end .0)) (λ z. out) (λ z. le-ltb t (d .end .0) (omega arith))))
+      (λ c. out)
+
   module _ (low : d .start .0 ≤ t) where
     pub belongs-inside : (n : ℕ) → t < d .end .0 → belongs rule t d n ≡ true
     unfolding belongs
@@ -48,6 +57,17 @@ module _ (rule t : ℕ) (d : DelaySegment) where
         pick-keeps (λ (b : Bool). b ≡ true) (eqb rule 2) (liesIn t d 0) (leb t (d .end .0))
         (λ c. both-yes _ _ (le-leb _ _ low) (le-leb _ _ h))
         (λ c. le-leb _ _ h)
+
+    -- on its end, by rule 2: only of the last
+    pub belongs-end : (n : ℕ) → eqb rule 2 ≡ true → t ≡ d .end .0 → belongs rule t d n ≡ eqb n 0
+    belongs-end n two e =
+        belongs-second n two ∙ both-go _ _ (le-leb _ _ low)
+        ∙ ap (λ (x : Bool). pick (eqb n 0) x (ltb t (d .end .0))) (le-leb t (d .end .0) (omega arith))
+        ∙ ap (pick (eqb n 0) true) (le-ltb t (d .end .0) (omega arith)) ∙ chosen (eqb n 0)
+      where
+        chosen : (b : Bool) → pick b true false ≡ b
+        chosen true = refl
+        chosen false = refl
 
 -- the test of the end by rule 2: of the last segment, and of another
 pub lies-last : (n a b : ℕ) → n ≡ 0 → pick (eqb n 0) (leb a b) (ltb a b) ≡ leb a b

@@ -26,7 +26,6 @@ use Rattle.segmentation.proofs.Rule.onward.Reads as onward-reads
 use Rattle.segmentation.proofs.delay_place.Reads as delay-place-reads
 use Rattle.segmentation.proofs.find_delays.Reads as find-delays-reads
 use Rattle.segmentation.proofs.answer.Reads as answer-reads
-use Rattle.segmentation.proofs.answer_at.Reads as answer-at-reads
 
 module _ (self : VolumeSegment) (from : Date) where
   pub carried-unique : Determined (carried-reads.Post tt (self, (from, tt)))
@@ -67,9 +66,6 @@ module _ (rule : Rule) (delays : List DelaySegment) (count : ℕ) where
 
   pub find-delays-unique : (send : Interval) → Determined (find-delays-reads.Post tt (rule, (delays, (count, (send, tt)))))
   find-delays-unique send r q x y f g = f ∙ sym g
-
-  pub answer-at-unique : (send : Interval) → Determined (answer-at-reads.Post tt (rule, (delays, (count, (send, tt)))))
-  answer-at-unique send r q x y f g = f ∙ sym g
 
 pub answer-unique : (send : Interval) (delays : Delays) → Determined (answer-reads.Post tt (send, (delays, tt)))
 answer-unique send delays r q x y f g = f ∙ sym g

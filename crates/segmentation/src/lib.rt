@@ -15,8 +15,8 @@ ghost use Rattle.units.specs.Limits.{dateMax, volumeMax, segmentsMax};
 ghost use Rattle.units.specs.Logic.{pick};
 ghost use Rattle.segmentation.specs.Capacity.{rateOf, capacity};
 ghost use Rattle.segmentation.specs.End.{byDeadline, endOf};
-ghost use Rattle.segmentation.specs.Delay.{belongs, delaysOf, answerOf, answerWith};
-ghost use Rattle.segmentation.specs.Granted.{SegOk, Covers, Runs, Short, AllShort, Placed, onwardOf, ticksOf};
+ghost use Rattle.segmentation.specs.Delay.{belongs, delaysOf, answerOf};
+ghost use Rattle.segmentation.specs.Granted.{SegOk, Covers, Runs, Short, Placed, onwardOf, ticksOf};
 
 // The edition of the end rule: 1 is the source's, 2 ends a send when its final unit has left.
 #[repr(C)]
@@ -51,16 +51,19 @@ impl Rule {
     pub fn belongs(self, date: Date, s: DelaySegment, after: usize) -> bool
         ensures { λ r. ⌜ r ≡ belongs (self .0) (date .0) s after ⌝ }
     {
+        if s.end.0 < date.0 {
+            return false;
+        }
         if self.0 != Rule::SECOND {
-            return date.0 <= s.end.0;
+            return true;
         }
         if date.0 < s.start.0 {
             return false;
         }
-        if after == 0 {
-            return date.0 <= s.end.0;
+        if date.0 < s.end.0 {
+            return true;
         }
-        date.0 < s.end.0
+        after == 0
     }
 
     // Where the end's lookup starts: by rule 1 at the place that the start's found.
@@ -297,18 +300,4 @@ pub fn answer(send: Interval, delays: Delays) -> Offer
             },
         },
     }
-}
-
-// The same, with the delays looked up.
-pub fn answer_at(
-    rule: Rule,
-    delays: [DelaySegment; DelaySegment::COUNT_MAX],
-    count: usize,
-    send: Interval,
-) -> Offer
-    requires { ⌜ count ≤ segmentsMax ⌝ ∗ ⌜ AllShort (take count delays) ⌝ ∗ ⌜ (send .start .0 ≤ dateMax) × (send .end .0 ≤ dateMax) ⌝ }
-    ensures { λ r. ⌜ r ≡ answerWith (delaysOf (rule .0) (take count delays)) send ⌝ }
-{
-    let found = find_delays(rule, delays, count, send);
-    answer(send, found)
 }
