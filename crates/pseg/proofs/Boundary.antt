@@ -1,13 +1,13 @@
 -- 02, R-4: every offer of a priority record that names rule 2 is received by the segments that have its send start and its send end.
 use mathlib.Core.Bool.{true}
-use mathlib.Core.Path.{_≡_, refl, sym, ap, _∙_}
+use mathlib.Core.Path.{_≡_, refl}
 use native.Mathlib.Omega.{arith}
 use Rattle.units.specs.declared.Date.{Date}
 use Rattle.units.specs.declared.Bundle.{Bundle}
 use Rattle.units.specs.declared.Offer.{Offer}
 use Rattle.units.specs.Limits.{bundleOk}
 use Rattle.units.proofs.Loads.{asked-load, load}
-use Rattle.units.proofs.Booking.{answer-done}
+use Rattle.units.proofs.Booking.{offer-keeps}
 use Rattle.contact.specs.Boundary.{Received}
 use Rattle.contact.specs.Record.{delayList}
 use Rattle.bookings.specs.declared.Run.{Run}
@@ -28,6 +28,5 @@ module _ (r : PrioritySeg) (at : Date) (b : Bundle) (two : r .contact .choices .
 
   pub offer-received : dryRunOf r at b .number ≡ 0 → By (dryRunOf r at b)
   unfolding dryRunOf
-  offer-received z =
-      let x = answer-done (recordOk r) (bundleOk at b) (answerTo r (runOf r (at .0) b)) z in
-      rw (x .2) (answer-received (x .0) (x .1) _ refl (sym (ap (λ (o : Offer). o .number) (x .2)) ∙ z))
+  offer-received =
+      offer-keeps By (recordOk r) (bundleOk at b) (answerTo r (runOf r (at .0) b)) (λ ok fits z. answer-received ok fits _ refl z)

@@ -1,7 +1,7 @@
 -- Edition 2 at the priority record: an offer has a length, so no send of zero length is offered.
 use Prim.Native.Nat.{ℕ, _<_}
 use mathlib.Core.Bool.{true}
-use mathlib.Core.Path.{_≡_, refl, sym, ap, _∙_}
+use mathlib.Core.Path.{_≡_, refl}
 use native.Mathlib.Omega.{arith}
 use Rattle.units.specs.Limits.{bundleOk}
 use Rattle.units.specs.declared.Date.{Date}
@@ -9,7 +9,7 @@ use Rattle.units.specs.declared.Interval.{Interval}
 use Rattle.units.specs.declared.Bundle.{Bundle}
 use Rattle.units.specs.declared.Offer.{Offer}
 use Rattle.units.proofs.Loads.{asked-load, load}
-use Rattle.units.proofs.Booking.{answer-done}
+use Rattle.units.proofs.Booking.{offer-keeps}
 use Rattle.segmentation.proofs.EndLaws.{end-after}
 use Rattle.contact.specs.Record.{ratesOf, editionOf}
 use Rattle.bookings.specs.declared.Run.{Run}
@@ -36,6 +36,5 @@ module _ (r : PrioritySeg) (at : Date) (b : Bundle) (two : editionOf (r .contact
 
   pub offer-after : dryRunOf r at b .number ≡ 0 → dryRunOf r at b .dates .send .start .0 < dryRunOf r at b .dates .send .end .0
   unfolding dryRunOf
-  offer-after z =
-      let x = answer-done (recordOk r) (bundleOk at b) (answerTo r (runOf r (at .0) b)) z in
-      rw (x .2) (answer-after (x .0) (x .1) _ refl (sym (ap (λ (o : Offer). o .number) (x .2)) ∙ z))
+  offer-after =
+      offer-keeps (λ (o : Offer). o .dates .send .start .0 < o .dates .send .end .0) (recordOk r) (bundleOk at b) (answerTo r (runOf r (at .0) b)) (λ ok fits z. answer-after ok fits _ refl z)

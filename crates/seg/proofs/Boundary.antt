@@ -1,13 +1,13 @@
 -- 02, R-4: every offer of a free-volume record that names rule 2 is received by the segments that have its send start and its send end.
 use mathlib.Core.Bool.{true}
-use mathlib.Core.Path.{_≡_, refl, sym, ap, _∙_}
+use mathlib.Core.Path.{_≡_, refl}
 use native.Mathlib.Omega.{arith}
 use Rattle.units.specs.declared.Date.{Date}
 use Rattle.units.specs.declared.Bundle.{Bundle}
 use Rattle.units.specs.declared.Offer.{Offer}
 use Rattle.units.specs.Limits.{bundleOk}
 use Rattle.units.proofs.Loads.{asked-load, load}
-use Rattle.units.proofs.Booking.{answer-done}
+use Rattle.units.proofs.Booking.{offer-keeps}
 use Rattle.contact.specs.Boundary.{Received}
 use Rattle.contact.specs.Record.{delayList}
 use Rattle.free_list.specs.declared.Found.{Found}
@@ -27,6 +27,5 @@ module _ (r : FreeVolume) (at : Date) (b : Bundle) (two : r .contact .choices .r
 
   pub offer-received : dryRunOf r at b .number ≡ 0 → By (dryRunOf r at b)
   unfolding dryRunOf
-  offer-received z =
-      let x = answer-done (recordOk r) (bundleOk at b) (answerTo r (foundOf r (at .0) (b .size .0))) z in
-      rw (x .2) (answer-received (x .0) (x .1) _ refl (sym (ap (λ (o : Offer). o .number) (x .2)) ∙ z))
+  offer-received =
+      offer-keeps By (recordOk r) (bundleOk at b) (answerTo r (foundOf r (at .0) (b .size .0))) (λ ok fits z. answer-received ok fits _ refl z)

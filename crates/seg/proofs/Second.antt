@@ -1,7 +1,7 @@
 -- Edition 2 at the record: an offer has a length, and from a fresh opening on every listed volume is the exact capacity of its segment.
 use Prim.Native.Nat.{ℕ, _+_, _<_}
 use mathlib.Core.Bool.{true}
-use mathlib.Core.Path.{_≡_, refl, sym, ap, _∙_}
+use mathlib.Core.Path.{_≡_, refl}
 use mathlib.Core.List.{List, [], _∷_}
 use mathlib.Core.Logic.{⊎-elim}
 use native.Mathlib.Omega.{arith}
@@ -13,7 +13,7 @@ use Rattle.units.specs.declared.TxData.{TxData}
 use Rattle.units.specs.declared.Bundle.{Bundle}
 use Rattle.units.specs.declared.Offer.{Offer}
 use Rattle.units.proofs.Loads.{asked-load, load}
-use Rattle.units.proofs.Booking.{answer-done}
+use Rattle.units.proofs.Booking.{offer-keeps}
 use Rattle.segmentation.specs.declared.RateSegment.{RateSegment}
 use Rattle.segmentation.specs.declared.DelaySegment.{DelaySegment}
 use Rattle.segmentation.specs.Capacity.{capacity}
@@ -64,9 +64,8 @@ module _ (r : FreeVolume) (at : Date) (b : Bundle) (two : editionOf (r .contact)
 
   pub offer-after : dryRunOf r at b .number ≡ 0 → dryRunOf r at b .dates .send .start .0 < dryRunOf r at b .dates .send .end .0
   unfolding dryRunOf
-  offer-after z =
-      let x = answer-done (recordOk r) (bundleOk at b) (answerTo r (foundOf r (at .0) (b .size .0))) z in
-      rw (x .2) (answer-after (x .0) (x .1) _ refl (sym (ap (λ (o : Offer). o .number) (x .2)) ∙ z))
+  offer-after =
+      offer-keeps (λ (o : Offer). o .dates .send .start .0 < o .dates .send .end .0) (recordOk r) (bundleOk at b) (answerTo r (foundOf r (at .0) (b .size .0))) (λ ok fits z. answer-after ok fits _ refl z)
 
 module _ (h : Choices) (w : Interval) (rates : List RateSegment) (m : ℕ) (delays : List DelaySegment) (k : ℕ)
     (rate-size : length rates ≡ segmentsMax) (delay-size : length delays ≡ segmentsMax) (zero : openOf h w rates m delays k .number ≡ 0) where

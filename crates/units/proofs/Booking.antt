@@ -57,12 +57,12 @@ module _ {B : Type 0} (o : Offer) (d : TxData) (fits : Bool) (refuse : ℕ → B
   pub booking-fits : refusalOf o d ≡ 0 → fits ≡ true
   booking-fits none = fits-by fits refl none
 
--- a dry run that answers 0 has passed both tests, and its answer is that of what was found
-pub answer-done : (ok fits : Bool) (o : Offer) → unless ok (refused 1) (unless fits (refused 2) o) .number ≡ 0
-    → (ok ≡ true) × (fits ≡ true) × (unless ok (refused 1) (unless fits (refused 2) o) ≡ o)
-answer-done true true o z = (refl, refl, refl)
-answer-done true false o z = absurd (omega (arith, z))
-answer-done false fits o z = absurd (omega (arith, z))
+-- over any manager: what an answer of 0 to what was found has, where both tests pass, every offer of its dry run has
+pub offer-keeps : (P : Offer → Type 0) (ok fits : Bool) (o : Offer) → (ok ≡ true → fits ≡ true → o .number ≡ 0 → P o)
+    → unless ok (refused 1) (unless fits (refused 2) o) .number ≡ 0 → P (unless ok (refused 1) (unless fits (refused 2) o))
+offer-keeps P true true o h z = h refl refl z
+offer-keeps P true false o h z = absurd (omega (arith, z))
+offer-keeps P false fits o h z = absurd (omega (arith, z))
 
 -- over any manager: what its refusals 1 and 2, and what it answers else, have, its dry run has; with 9, so has its booking
 module _ {A : Type 0} (P : A → Type 0) (ok fits : Bool) (refuse : ℕ → A) (one : P (refuse 1)) (two : P (refuse 2)) where
