@@ -13,4 +13,7 @@ pub mod Choice
 pub mod Each
 pub mod Loads
 pub mod Booking
+pub mod Forbids
+pub mod Twin
+pub mod Runs
 pub mod Unique

@@ -64,6 +64,15 @@ unless-go c x y e = rw e
 pub unless-stop : {A : Type 0} (c : Bool) (x y : A) → c ≡ false → unless c x y ≡ x
 unless-stop c x y e = rw e
 
+-- what turns both ways of a test turns what the test tells
+pub unless-turned : {A : Type 0} (t : A → A) (c : Bool) {x y u v : A} → u ≡ t x → v ≡ t y → unless c u v ≡ t (unless c x y)
+unless-turned t true e f = f
+unless-turned t false e f = e
+
+pub pick-turned : {A : Type 0} (t : A → A) (c : Bool) {x y u v : A} → u ≡ t x → v ≡ t y → pick c u v ≡ t (pick c x y)
+pick-turned t true e f = e
+pick-turned t false e f = f
+
 module _ {A : Type 0} (p : A → Bool) (a : A) (l : List A) where
   pub all-go : p a ≡ true → allOf p (a ∷ l) ≡ allOf p l
   unfolding allOf

@@ -5,12 +5,15 @@ use Rattle.units.specs.declared.Date.{Date}
 use Rattle.units.specs.declared.Delay.{Delay}
 use Rattle.units.specs.declared.Volume.{Volume}
 use Rattle.units.specs.declared.Interval.{Interval}
+use Rattle.units.specs.declared.Strict.{Strict}
 use Rattle.units.specs.declared.TxData.{TxData}
 use Rattle.units.specs.declared.Bundle.{Bundle}
 use Rattle.units.specs.declared.Offer.{Offer}
 use Rattle.units.proofs.Determined.{Determined}
 use Rattle.units.proofs.Date.after.Reads as after-reads
 use Rattle.units.proofs.Interval.is_window.Reads as is-window-reads
+use Rattle.units.proofs.Strict.ok.Reads as strict-ok-reads
+use Rattle.units.proofs.Strict.forbids.Reads as forbids-reads
 use Rattle.units.proofs.Bundle.ok_at.Reads as ok-at-reads
 use Rattle.units.proofs.Bundle.ok.Reads as ok-reads
 use Rattle.units.proofs.TxData.same.Reads as same-reads
@@ -41,6 +44,13 @@ module _ (a : Date) where
 pub one-or-two-unique : (n : ℕ) → Determined (one-or-two-reads.Post tt (n, tt))
 one-or-two-unique n r q x y f g = f ∙ sym g
 
+module _ (strict : Strict) where
+  pub strict-ok-unique : Determined (strict-ok-reads.Post tt (strict, tt))
+  strict-ok-unique r q x y f g = f ∙ sym g
+
+  pub forbids-unique : (send : Interval) → Determined (forbids-reads.Post tt (strict, (send, tt)))
+  forbids-unique send r q x y f g = f ∙ sym g
+
 pub is-window-unique : (w : Interval) → Determined (is-window-reads.Post tt (w, tt))
 is-window-unique w r q x y f g = f ∙ sym g
 
@@ -58,8 +68,8 @@ module _ (d : TxData) where
   pub is-unique : (o : Offer) → Determined (is-reads.Post tt (o, (d, tt)))
   is-unique o r q x y f g = f ∙ sym g
 
-  pub refusal-unique : (o : Offer) → Determined (refusal-reads.Post tt (o, (d, tt)))
-  refusal-unique o r q x y f g = f ∙ sym g
+  pub refusal-unique : (strict : Strict) (o : Offer) → Determined (refusal-reads.Post tt (o, (strict, (d, tt))))
+  refusal-unique strict o r q x y f g = f ∙ sym g
 
 pub refused-unique : (number : ℕ) → Determined (refused-reads.Post tt (number, tt))
 refused-unique number r q x y f g = f ∙ sym g

@@ -6,7 +6,7 @@ use Rattle.units.specs.declared.Date.{Date}
 use Rattle.units.specs.declared.Interval.{Interval}
 use Rattle.units.specs.declared.TxData.{TxData}
 use Rattle.units.specs.declared.Offer.{Offer}
-use Rattle.units.specs.Logic.{both}
+use Rattle.units.specs.Logic.{both, unless, pick}
 
 abbrev pub interval : ℕ → ℕ → Interval
 interval a b = record { start = record { 0 = a }; end = record { 0 = b } }
@@ -29,3 +29,8 @@ sameDates a b =
 -- refusal 9 is given unless the dry run answers 0 with these four dates
 unfoldable pub offers : Offer → TxData → Bool
 offers o d = both (eqb (o .number) 0) (sameDates (o .dates) d)
+
+-- a booking, in order: 1 for the record, 2 for the bundle, 9 unless it is the offer, 02's 17 where the flag forbids it, then what the manager does
+abbrev pub bookingOf : {A : Type 0} → Bool → Bool → Bool → Bool → (ℕ → A) → A → A
+bookingOf kept fits same forbidden refuse done =
+    unless kept (refuse 1) (unless fits (refuse 2) (unless same (refuse 9) (pick forbidden (refuse 17) done)))

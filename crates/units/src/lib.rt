@@ -3,6 +3,7 @@ ghost use mathlib.Core.Path.{_≡_};
 ghost use Prim.Native.Nat.{_+_, _≤_, min, max};
 ghost use Rattle.units.specs.Limits.{dateMax, delayMax, bundleOk, loadOk, oneOrTwo, windowOk};
 ghost use Rattle.units.specs.Answer.{refused, sameDates, offers};
+ghost use Rattle.units.specs.Strict.{strictOk, forbids};
 ghost use Rattle.units.specs.Granted.{refusalOf};
 
 pub mod refusal;
@@ -28,6 +29,10 @@ pub struct Interval {
     pub start: Date,
     pub end: Date,
 }
+
+// 02, R-7: whether a record refuses to book sends of zero length.
+#[repr(C)]
+pub struct Strict(pub u64);
 
 // contact_manager/mod.rs: ContactManagerTxData
 #[repr(C)]
@@ -102,6 +107,29 @@ impl Interval {
     }
 }
 
+impl Strict {
+    pub const OFF: u64 = 0;
+
+    pub const ON: u64 = 1;
+
+    // Is it a flag that there is?
+    pub fn ok(self) -> bool
+        ensures { λ r. ⌜ r ≡ strictOk (self .0) ⌝ }
+    {
+        self.0 <= Strict::ON
+    }
+
+    // Is a booking of this send interval refused?
+    pub fn forbids(self, send: Interval) -> bool
+        ensures { λ r. ⌜ r ≡ forbids (self .0) send ⌝ }
+    {
+        if self.0 != Strict::ON {
+            return false;
+        }
+        send.start.0 == send.end.0
+    }
+}
+
 impl Bundle {
     // Are the asked time, the size and the priority inside their limits?
     pub fn ok_at(self, at: Date) -> bool
@@ -162,15 +190,19 @@ impl Offer {
         own.same(dates)
     }
 
-    // Why a booking with these dates is refused, where this is what the dry run answers: 2, else 9; 0 where it is not refused.
-    pub fn refusal(self, dates: TxData) -> u8
-        ensures { λ r. ⌜ r ≡ refusalOf self dates ⌝ }
+    // Why a booking with these dates is refused before anything is cut or queued, where this is what the dry run answers: 2, 9, then 17; 0 where it is not.
+    pub fn refusal(self, strict: Strict, dates: TxData) -> u8
+        ensures { λ r. ⌜ r ≡ refusalOf (strict .0) self dates ⌝ }
     {
         if self.number == refusal::BUNDLE {
             return refusal::BUNDLE;
         }
         if !self.is(dates) {
             return refusal::NOT_OFFERED;
+        }
+        let send = dates.send;
+        if strict.forbids(send) {
+            return refusal::ZERO_LENGTH;
         }
         0
     }

@@ -29,3 +29,6 @@ pub const SELF_UPDATE: u8 = 12;
 pub const QUEUE: u8 = 13;
 
 pub const CLASSES: u8 = 14;
+
+// 02, R-7: what is offered has zero length, and the record is strict.
+pub const ZERO_LENGTH: u8 = 17;
