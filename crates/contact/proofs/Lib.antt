@@ -7,6 +7,7 @@ pub mod Records
 pub mod Sound
 pub mod Total
 pub mod Fresh
+pub mod Twin
 pub mod Unique
 pub mod Boundary
 pub mod Lookup

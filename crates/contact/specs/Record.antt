@@ -14,6 +14,7 @@ use Rattle.segmentation.specs.declared.Delays.{Delays}
 use Rattle.segmentation.specs.Delay.{delaysOf, answerWith}
 use Rattle.segmentation.specs.End.{endOf}
 use Rattle.contact.specs.declared.Contact.{Contact}
+use Rattle.contact.specs.Choices.{flagging}
 use Rattle.contact.specs.Segments.{rateSegment, wholeOf, noVolume, noDelay}
 use Rattle.contact.specs.Open.{totalOf, openContact}
 
@@ -31,6 +32,21 @@ totalIn c = totalOf (map rateSegment (ratesOf c))
 -- the edition that a contact names, and its end rule over the rate segments
 abbrev pub editionOf : Contact → ℕ
 editionOf c = c .choices .edition .0
+
+-- its strict flag, and the contact with another
+abbrev pub strictOf : Contact → ℕ
+strictOf c = c .choices .strict .0
+
+abbrev pub flagged : ℕ → Contact → Contact
+flagged n c =
+    record {
+      choices = flagging n (c .choices);
+      window = c .window;
+      rates = c .rates;
+      «rate_count» = c .«rate_count»;
+      delays = c .delays;
+      «delay_count» = c .«delay_count»;
+    }
 
 abbrev pub endRule : Contact → ℕ → ℕ → ℕ → End
 endRule c = endOf (editionOf c) (ratesOf c)

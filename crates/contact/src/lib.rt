@@ -9,6 +9,7 @@ use units::Date;
 use units::Delay;
 use units::Interval;
 use units::Offer;
+use units::Strict;
 use units::Volume;
 ghost use mathlib.Core.Path.{_≡_};
 ghost use mathlib.Core.Bool.{true};
@@ -21,11 +22,12 @@ ghost use Rattle.contact.specs.Record.{contactOk, answerIn};
 pub mod opening;
 pub mod test;
 
-// What an opening chooses and the record names: the edition of the end rule and the rule of the delays.
+// What an opening chooses and the record names: the edition of the end rule, the rule of the delays and the strict flag.
 #[repr(C)]
 pub struct Choices {
     pub edition: Edition,
     pub rule: Rule,
+    pub strict: Strict,
 }
 
 impl Choices {
@@ -36,6 +38,7 @@ impl Choices {
         Choices {
             edition: Edition(Edition::FIRST),
             rule: Rule(Rule::FIRST),
+            strict: Strict(Strict::OFF),
         }
     }
 
@@ -46,7 +49,11 @@ impl Choices {
         if !units::one_or_two(self.edition.0) {
             return false;
         }
-        units::one_or_two(self.rule.0)
+        if !units::one_or_two(self.rule.0) {
+            return false;
+        }
+        let strict = self.strict;
+        strict.ok()
     }
 }
 
@@ -76,6 +83,7 @@ impl Contact {
         let unchosen = Choices {
             edition: Edition(0),
             rule: Rule(0),
+            strict: Strict(0),
         };
         let none = Interval {
             start: Date(0),
