@@ -7,10 +7,11 @@ use Rattle.units.specs.declared.Interval.{Interval}
 use Rattle.units.specs.declared.TxData.{TxData}
 use Rattle.units.specs.declared.Offer.{Offer}
 use Rattle.units.specs.Logic.{unless}
-use Rattle.units.specs.Answer.{refused, offers}
+use Rattle.units.specs.Answer.{refused, offers, bookingOf}
+use Rattle.units.specs.Strict.{forbids}
 use Rattle.units.specs.Granted.{refusalOf}
 use Rattle.units.proofs.Logic.{no-both, unless-go, unless-stop}
-use Rattle.units.proofs.Booking.{refusal-none, booking-refused, booking-fits}
+use Rattle.units.proofs.Booking.{refusal-none, booking-refused, shown-fits, booking-done}
 use Rattle.segmentation.specs.declared.Delays.{Delays}
 use Rattle.contact.proofs.Offers.{refused-offers, offers-send, answer-not-two}
 use Rattle.free_list.specs.declared.Found.{Found}
@@ -51,23 +52,24 @@ module _ (fits : Bool) (find : ℕ → ℕ → Delays) (f : Found) where
   only-two : fits ≡ true → offer .number ≡ 2 → ⊥
   only-two e h = not-two find f (sym (ap (λ (x : Chosen). x .offer .number) (chosen-go e)) ∙ h)
 
-  module _ {B : Type 0} (d : TxData) (refuse : ℕ → B) (done : Found → B) where
-    -- 2, 9, then the booking of what was found
+  module _ {B : Type 0} (strict : ℕ) (d : TxData) (refuse : ℕ → B) (done : Found → B) where
+    -- 2, 9, 17, then the booking of what was found
     abbrev pub table : B
-    table = unless fits (refuse 2) (unless (offers offer d) (refuse 9) (done f))
+    table = bookingOf true fits (offers offer d) (forbids strict (d .send)) refuse (done f)
 
-    pub table-refused : (refusalOf (chosenIn fits find f .offer) d ≡ 0 → ⊥) → table ≡ refuse (refusalOf (chosenIn fits find f .offer) d)
-    table-refused some = booking-refused offer d fits refuse (done f) two only-two some
+    pub table-refused : (refusalOf strict (chosenIn fits find f .offer) d ≡ 0 → ⊥) → table ≡ refuse (refusalOf strict (chosenIn fits find f .offer) d)
+    table-refused some = booking-refused strict offer d fits refuse (done f) two only-two some
 
-    module _ (none : refusalOf (chosenIn fits find f .offer) d ≡ 0) where
+    -- what is offered is what the search found, for a bundle inside its limits
+    module _ (shows : offers (chosenIn fits find f .offer) d ≡ true) where
       pub table-fits : fits ≡ true
-      table-fits = booking-fits offer d fits refuse (done f) two none
+      table-fits = shown-fits strict offer d fits refuse (done f) two shows
 
-      -- the dates send what the search found
       pub table-found : f ≡ At (chosenIn fits find f .place) (d .send)
       table-found =
           let e = chosen-go table-fits in
-          rw e (found-sends find f d (sym (ap (λ (x : Chosen). offers (x .offer) d) e) ∙ refusal-none offer d none))
+          rw e (found-sends find f d (sym (ap (λ (x : Chosen). offers (x .offer) d) e) ∙ shows))
 
+    module _ (none : refusalOf strict (chosenIn fits find f .offer) d ≡ 0) where
       pub table-done : table ≡ done (At (chosenIn fits find f .place) (d .send))
-      table-done = unless-go _ _ _ table-fits ∙ unless-go _ _ _ (refusal-none offer d none) ∙ ap done table-found
+      table-done = booking-done strict offer d fits refuse (done f) two none ∙ ap done (table-found (refusal-none strict offer d none .0))

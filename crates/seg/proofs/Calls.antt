@@ -4,6 +4,7 @@ use mathlib.Core.Bool.{Bool, true, false}
 use mathlib.Core.Path.{_≡_, refl, sym, ap, _∙_}
 use mathlib.Core.Logic.{⊎-elim}
 use native.Mathlib.Omega.{arith}
+use lib.Dec.{eqb}
 use borrow.Author.Tests.{eq-eqb, ne-eqb}
 use Rattle.units.specs.declared.Date.{Date}
 use Rattle.units.specs.declared.Interval.{Interval}
@@ -12,12 +13,14 @@ use Rattle.units.specs.declared.Bundle.{Bundle}
 use Rattle.units.specs.declared.Offer.{Offer}
 use Rattle.units.specs.Logic.{unless}
 use Rattle.units.specs.Limits.{bundleOk}
-use Rattle.units.specs.Answer.{refused, offers}
+use Rattle.units.specs.Answer.{refused, offers, bookingOf}
+use Rattle.units.specs.Strict.{forbids}
 use Rattle.units.specs.Granted.{refusalOf}
-use Rattle.units.proofs.Logic.{unless-go, unless-stop}
+use Rattle.units.proofs.Logic.{unless-go, unless-stop, unless-keeps}
+use Rattle.units.proofs.Booking.{refusal-none}
 use Rattle.units.proofs.Loads.{asked-load, load}
 use Rattle.segmentation.specs.declared.Delays.{Delays}
-use Rattle.contact.specs.Record.{editionOf, ratesOf, delaysAt}
+use Rattle.contact.specs.Record.{editionOf, strictOf, ratesOf, delaysAt}
 use Rattle.free_list.specs.declared.Found.{Found}
 use Rattle.free_list.specs.declared.Found.the-variants.{At, None}
 use Rattle.free_list.specs.declared.Cut.{Cut}
@@ -46,6 +49,16 @@ module _ (r : FreeVolume) (q : Facts r) (i : ℕ) (send : Interval) (v : ℕ) wh
       let same : withFree r (cut .list) ≡ r = ap (withFree r) (cut-refused (editionOf (r .contact)) (ratesOf (r .contact)) (r .free) i (send .start .0) (send .end .0) v none) ∙ own-list r q in
       unless-stop _ _ _ (ne-eqb _ _ none) ∙ ap (refusedBooking (cut .number)) (sym same))
       (cut-number (editionOf (r .contact)) (ratesOf (r .contact)) (r .free) i (send .start .0) (send .end .0) v)
+
+-- a booking's own numbers are 0, 9 and 10
+module _ (r : FreeVolume) (n : ℕ) (other : (n ≡ 0 → ⊥) × (n ≡ 9 → ⊥) × (n ≡ 10 → ⊥)) where
+  pub booked-number : (f : Found) (v : ℕ) → bookedAt r f v .number ≡ n → ⊥
+  booked-number (At i send) v =
+      unless-keeps (λ (x : Booked). x .number ≡ n → ⊥) (eqb (cutFree r i send v .number) 0) _ _
+      (λ _ h. ⊎-elim (λ (z : cutFree r i send v .number ≡ 0). other .0 (sym h ∙ z)) (λ (z : cutFree r i send v .number ≡ 10). other .2 (sym h ∙ z))
+      (cut-number (editionOf (r .contact)) (ratesOf (r .contact)) (r .free) i (send .start .0) (send .end .0) v))
+      (λ _ h. other .0 (sym h))
+  booked-number None v = λ h. other .1 (sym h)
 
 module _ (r : FreeVolume) (at : Date) (b : Bundle) where
   pub dry-record : recordOk r ≡ false → dryRunOf r at b ≡ refused 1
@@ -87,32 +100,35 @@ module _ (r : FreeVolume) (at : Date) (b : Bundle) where
       abbrev refuse : ℕ → Booked
       refuse n = refusedBooking n r
 
+      abbrev strict : ℕ
+      strict = strictOf (r .contact)
+
       abbrev done : Found → Booked
       done f = bookedAt r f (b .size .0)
 
-      book-is : bookOf r at b d ≡ table fits find found d refuse done
+      book-is : bookOf r at b d ≡ table fits find found strict d refuse done
       unfolding bookOf chosenOf
       book-is =
           unless-go _ _ _ ok
-          ∙ ap (λ (o : Offer). unless fits (refuse 2) (unless (offers o d) (refuse 9) (done found))) (sym chosen-offer)
+          ∙ ap (λ (o : Offer). bookingOf true fits (offers o d) (forbids strict (d .send)) refuse (done found)) (sym chosen-offer)
 
-      pub chosen-refused : (refusalOf (chosenOf r at b .offer) d ≡ 0 → ⊥) → bookOf r at b d ≡ refusedBooking (refusalOf (chosenOf r at b .offer) d) r
+      pub chosen-refused : (refusalOf (strictOf (r .contact)) (chosenOf r at b .offer) d ≡ 0 → ⊥) → bookOf r at b d ≡ refusedBooking (refusalOf (strictOf (r .contact)) (chosenOf r at b .offer) d) r
       unfolding chosenOf
-      chosen-refused some = book-is ∙ table-refused fits find found d refuse done some
+      chosen-refused some = book-is ∙ table-refused fits find found strict d refuse done some
 
-      module _ (none : refusalOf (chosenOf r at b .offer) d ≡ 0) where
+      module _ (none : refusalOf (strictOf (r .contact)) (chosenOf r at b .offer) d ≡ 0) where
         pub chosen-fits : bundleOk at b ≡ true
         unfolding chosenOf
-        chosen-fits = table-fits fits find found d refuse done none
+        chosen-fits = table-fits fits find found strict d refuse done (refusal-none strict _ d none .0)
 
         -- the dates send what the search found
         pub chosen-found : foundOf r (at .0) (b .size .0) ≡ At (chosenOf r at b .place) (d .send)
         unfolding chosenOf
-        chosen-found = table-found fits find found d refuse done none
+        chosen-found = table-found fits find found strict d refuse done (refusal-none strict _ d none .0)
 
         pub chosen-done : (bookOf r at b d ≡ bookedBy r (cutFree r (chosenOf r at b .place) (d .send) (b .size .0))) × Inside (r .free) (chosenOf r at b .place) (b .size .0)
         unfolding chosenOf
         chosen-done = (
-          book-is ∙ table-done fits find found d refuse done none ∙ booked-by r (facts r ok) _ _ _,
+          book-is ∙ table-done fits find found strict d refuse done none ∙ booked-by r (facts r ok) _ _ _,
           cut-asks r (facts r ok) (at .0) (b .size .0) (load b (asked-load at b chosen-fits) .some) (chosenOf r at b .place) (d .send) chosen-found,
         )

@@ -15,16 +15,18 @@ use Rattle.units.specs.declared.Interval.{Interval}
 use Rattle.units.specs.declared.TxData.{TxData}
 use Rattle.units.specs.declared.Bundle.{Bundle}
 use Rattle.units.specs.Logic.{unless}
+use Rattle.units.specs.Strict.{forbids}
 use Rattle.units.specs.Granted.{refusalOf}
 use Rattle.units.proofs.Numbers.{eq-or-ne}
 use Rattle.units.proofs.Loads.{asked-load, load}
+use Rattle.units.proofs.Booking.{refusal-none}
 use Rattle.segmentation.specs.declared.RateSegment.{RateSegment}
 use Rattle.segmentation.specs.declared.DelaySegment.{DelaySegment}
 use Rattle.segmentation.specs.Capacity.{capacity, topOf}
 use Rattle.segmentation.proofs.Capacity.{total-is}
 use Rattle.contact.specs.declared.Choices.{Choices}
 use Rattle.contact.specs.declared.Opened.{Opened as ContactOpened}
-use Rattle.contact.specs.Record.{contactOk, ratesOf, editionOf}
+use Rattle.contact.specs.Record.{contactOk, ratesOf, editionOf, strictOf}
 use Rattle.contact.specs.Open.{totalOf, contactOf, openContact}
 use Rattle.contact.proofs.Sound.{sound}
 use Rattle.contact.proofs.Fresh.{opened-ok, opened-total}
@@ -106,6 +108,7 @@ pub record Accepted (r : FreeVolume) (at : Date) (b : Bundle) (d : TxData) (a : 
   pub some : 0 < b .size .0
   pub place : ℕ
   pub found : foundOf r (at .0) (b .size .0) ≡ At place (d .send)
+  pub allowed : forbids (strictOf (r .contact)) (d .send) ≡ false
   pub few : length (cutOf (editionOf (r .contact)) (ratesOf (r .contact)) (listed (r .free)) place (d .send .start .0) (d .send .end .0) (b .size .0)) ≤ listedMax
   pub number : a .number ≡ 0
   pub manager : a .manager
@@ -118,7 +121,7 @@ module _ (r : FreeVolume) (at : Date) (b : Bundle) (d : TxData) (ok : recordOk r
   abbrev booked : Booked
   booked = bookOf r at b d
 
-  at-place : refusalOf (chosenOf r at b .offer) d ≡ 0 → (Refused r booked) ⊎ (Accepted r at b d booked)
+  at-place : refusalOf (strictOf (r .contact)) (chosenOf r at b .offer) d ≡ 0 → (Refused r booked) ⊎ (Accepted r at b d booked)
   at-place none =
       let v = b .size .0 in
       let n = editionOf (r .contact) in
@@ -131,6 +134,7 @@ module _ (r : FreeVolume) (at : Date) (b : Bundle) (d : TxData) (ok : recordOk r
         some = load b (asked-load at b (chosen-fits r at b ok d none)) .some;
         place = i;
         found = chosen-found r at b ok d none;
+        allowed = refusal-none _ _ d none .1;
         few = cut-few n l (r .free) i (d .send .start .0) (d .send .end .0) v z;
         number = ap (λ (x : Booked). x .number) is ∙ z;
         manager = ap (λ (x : Booked). x .manager) is ∙ ap (withFree r) (cut-list n l (r .free) i (d .send .start .0) (d .send .end .0) v z);
@@ -147,8 +151,8 @@ module _ (r : FreeVolume) (at : Date) (b : Bundle) (d : TxData) (ok : recordOk r
   book-cases =
       ⊎-elim
       at-place
-      (λ (some : refusalOf (chosenOf r at b .offer) d ≡ 0 → ⊥). inl (refuse _ r booked some (chosen-refused r at b ok d some)))
-      (eq-or-ne (refusalOf (chosenOf r at b .offer) d) 0)
+      (λ (some : refusalOf (strictOf (r .contact)) (chosenOf r at b .offer) d ≡ 0 → ⊥). inl (refuse _ r booked some (chosen-refused r at b ok d some)))
+      (eq-or-ne (refusalOf (strictOf (r .contact)) (chosenOf r at b .offer) d) 0)
 
   -- no call ever meets refusal 1 after a fresh opening
   pub book-keeps : recordOk (booked .manager) ≡ true

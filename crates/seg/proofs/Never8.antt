@@ -3,7 +3,6 @@ use Prim.Native.Nat.{ℕ}
 use mathlib.Core.Bool.{true}
 use mathlib.Core.Path.{_≡_, refl}
 use mathlib.Core.List.{List}
-use mathlib.Core.Logic.{⊎-elim}
 use native.Mathlib.Omega.{arith}
 use lib.Dec.{eqb}
 use Rattle.units.specs.declared.Date.{Date}
@@ -13,6 +12,7 @@ use Rattle.units.specs.declared.Bundle.{Bundle}
 use Rattle.units.specs.declared.Offer.{Offer}
 use Rattle.units.specs.Limits.{bundleOk}
 use Rattle.units.specs.Answer.{refused, offers}
+use Rattle.units.specs.Strict.{forbids}
 use Rattle.units.proofs.Logic.{unless-keeps}
 use Rattle.units.proofs.Booking.{dry-run-keeps, booking-keeps}
 use Rattle.units.proofs.Loads.{asked-load, load}
@@ -21,11 +21,10 @@ use Rattle.segmentation.specs.declared.DelaySegment.{DelaySegment}
 use Rattle.contact.specs.declared.Choices.{Choices}
 use Rattle.contact.specs.declared.Opened.{Opened as ContactOpened}
 use Rattle.contact.specs.Open.{openContact}
-use Rattle.contact.specs.Record.{ratesOf, editionOf}
+use Rattle.contact.specs.Record.{strictOf}
 use Rattle.contact.proofs.Refusals.{opening-never-8}
 use Rattle.free_list.specs.declared.Found.{Found}
 use Rattle.free_list.specs.declared.Found.the-variants.{At, None}
-use Rattle.free_list.proofs.CutList.{cut-number}
 use Rattle.seg.specs.declared.FreeVolume.{FreeVolume}
 use Rattle.seg.specs.declared.Opened.{Opened}
 use Rattle.seg.specs.declared.Booked.{Booked}
@@ -34,10 +33,11 @@ use Rattle.seg.specs.declared.RoomLeft.{RoomLeft}
 use Rattle.seg.specs.Record.{recordOk}
 use Rattle.seg.specs.Open.{openedOf, openOf}
 use Rattle.seg.specs.DryRun.{foundOf, answerTo, dryRunOf}
-use Rattle.seg.specs.Book.{refusedBooking, cutFree, bookedAt, bookOf}
+use Rattle.seg.specs.Book.{refusedBooking, bookedAt, bookOf}
 use Rattle.seg.specs.List.{listOf}
 use Rattle.seg.specs.Room.{roomAnswer}
 use Rattle.seg.proofs.Facts.{facts, found-answers}
+use Rattle.seg.proofs.Calls.{booked-number}
 
 abbrev Not8 : ℕ → Type 0
 Not8 n = n ≡ 8 → ⊥
@@ -53,22 +53,12 @@ module _ (r : FreeVolume) (at : Date) (b : Bundle) where
       dry-run-keeps (λ (o : Offer). Not8 (o .number)) (recordOk r) (bundleOk at b) refused (λ h. omega arith) (λ h. omega arith) _
       (λ ok fits. answer-never-8 ok fits (foundOf r (at .0) (b .size .0)) refl)
 
-  cut-never-8 : (i : ℕ) (send : Interval) (v : ℕ) → Not8 (cutFree r i send v .number)
-  cut-never-8 i send v h =
-      ⊎-elim (λ (z : cutFree r i send v .number ≡ 0). omega arith) (λ (z : cutFree r i send v .number ≡ 10). omega arith)
-      (cut-number (editionOf (r .contact)) (ratesOf (r .contact)) (r .free) i (send .start .0) (send .end .0) v)
-
-  booked-never-8 : (f : Found) (v : ℕ) → Not8 (bookedAt r f v .number)
-  booked-never-8 (At i send) v =
-      unless-keeps (λ (x : Booked). Not8 (x .number)) (eqb (cutFree r i send v .number) 0) _ _ (λ f. cut-never-8 i send v) (λ f h. omega arith)
-  booked-never-8 None v = λ h. omega arith
-
   pub book-never-8 : (d : TxData) → Not8 (bookOf r at b d .number)
   unfolding bookOf
   book-never-8 d =
       booking-keeps (λ (x : Booked). Not8 (x .number)) (recordOk r) (bundleOk at b) (λ (n : ℕ). refusedBooking n r) (λ h. omega arith) (λ h. omega arith)
-      (offers (dryRunOf r at b) d) (bookedAt r (foundOf r (at .0) (b .size .0)) (b .size .0)) (λ h. omega arith)
-      (λ ok. booked-never-8 (foundOf r (at .0) (b .size .0)) (b .size .0))
+      (offers (dryRunOf r at b) d) (forbids (strictOf (r .contact)) (d .send)) (bookedAt r (foundOf r (at .0) (b .size .0)) (b .size .0)) (λ h. omega arith) (λ h. omega arith)
+      (λ ok fits same free h. booked-number r 8 (λ z. omega arith, λ z. omega arith, λ z. omega arith) (foundOf r (at .0) (b .size .0)) (b .size .0) h)
 
 module _ (r : FreeVolume) where
   pub list-never-8 : Not8 (listOf r .number)

@@ -1,4 +1,4 @@
--- 01, "Refusal numbers", Booking: 1, 2, 9, then 10; a refusal hands the record back as it came.
+-- 01, "Refusal numbers", Booking, and 02, R-7: 1, 2, 9, 17, then 10; a refusal hands the record back as it came.
 use Prim.Native.Nat.{ℕ}
 use lib.Dec.{eqb}
 use Rattle.units.specs.declared.Date.{Date}
@@ -7,14 +7,15 @@ use Rattle.units.specs.declared.TxData.{TxData}
 use Rattle.units.specs.declared.Bundle.{Bundle}
 use Rattle.units.specs.Logic.{unless}
 use Rattle.units.specs.Limits.{bundleOk}
-use Rattle.units.specs.Answer.{offers}
+use Rattle.units.specs.Answer.{offers, bookingOf}
+use Rattle.units.specs.Strict.{forbids}
 use Rattle.free_list.specs.declared.Found.{Found}
 use Rattle.free_list.specs.declared.Found.the-variants.{At, None}
 use Rattle.free_list.specs.declared.Cut.{Cut}
 use Rattle.free_list.specs.Cut.{cutList}
 use Rattle.seg.specs.declared.FreeVolume.{FreeVolume}
 use Rattle.seg.specs.declared.Booked.{Booked}
-use Rattle.contact.specs.Record.{ratesOf, editionOf}
+use Rattle.contact.specs.Record.{ratesOf, editionOf, strictOf}
 use Rattle.seg.specs.Record.{recordOk, withFree}
 use Rattle.seg.specs.DryRun.{dryRunOf, foundOf}
 
@@ -39,7 +40,5 @@ bookedAt r None v = refusedBooking 9 r
 -- the booking
 unfoldable pub bookOf : FreeVolume → Date → Bundle → TxData → Booked
 bookOf r at b d =
-    unless (recordOk r) (refusedBooking 1 r)
-    (unless (bundleOk at b) (refusedBooking 2 r)
-    (unless (offers (dryRunOf r at b) d) (refusedBooking 9 r)
-    (bookedAt r (foundOf r (at .0) (b .size .0)) (b .size .0))))
+    bookingOf (recordOk r) (bundleOk at b) (offers (dryRunOf r at b) d) (forbids (strictOf (r .contact)) (d .send)) (λ n. refusedBooking n r)
+    (bookedAt r (foundOf r (at .0) (b .size .0)) (b .size .0))

@@ -217,7 +217,7 @@ impl FreeVolume {
         let c = self.chosen(at, bundle);
         let offer = c.offer;
         let place = c.place;
-        let number = offer.refusal(dates);
+        let number = offer.refusal(self.contact.choices.strict, dates);
         if number != 0 {
             return self.refused_booking(number);
         }
@@ -238,7 +238,7 @@ impl FreeVolume {
         }
     }
 
-    // schedule_tx, with the time that the dry run was asked: 1, 2, 9, then 10.
+    // schedule_tx, with the time that the dry run was asked: 1, 2, 9, 17, then 10.
     pub fn book(self, at: Date, bundle: Bundle, dates: TxData) -> Booked
         ensures { λ r. ⌜ r ≡ bookOf self at bundle dates ⌝ }
     {

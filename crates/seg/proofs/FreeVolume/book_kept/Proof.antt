@@ -1,8 +1,9 @@
--- `seg::FreeVolume::book_kept` meets its contract: what is chosen tells the refusal, and where to cut.
+-- `seg::FreeVolume::book_kept` meets its contract: what is chosen and the flag tell the refusal, and where to cut.
 use borrow.Author.Needs.{needs}
 use Prim.Native.Nat.{ℕ}
 use mathlib.Core.Path.{_≡_, sym, ap, _∙_}
 use Rattle.units.specs.Granted.{refusalOf}
+use Rattle.contact.specs.Record.{strictOf}
 use Rattle.free_list.specs.declared.Chosen.{Chosen}
 use Rattle.free_list.proofs.CutRoom.{changed-asks}
 use Rattle.seg.specs.declared.FreeVolume.{FreeVolume}
@@ -14,12 +15,17 @@ use Rattle.seg.proofs.Calls.{chosen-refused, chosen-done}
 use Rattle.seg.proofs.FreeVolume.book_kept.Statement.{statement}
 use Rattle.seg.proofs.FreeVolume.book_kept.Tie as tie
 
+-- what was chosen before the refusal was asked for
+abbrev asked : tie.After-refusal → tie.After-chosen
+asked c = c .before .before
+
 refusal-is : (c : tie.After-refusal) →
-    let a = c .before .before .before .args in
-    c .refusal .result ≡ refusalOf (chosenOf (a .self) (a .at) (a .bundle) .offer) (a .dates)
+    let a = asked c .before .args in
+    c .refusal .result ≡ refusalOf (strictOf (a .self .contact)) (chosenOf (a .self) (a .at) (a .bundle) .offer) (a .dates)
 refusal-is c =
-    let k = c .before .before in
-    c .refusal .ensures ∙ ap (λ (x : Chosen). refusalOf (x .offer) (k .before .args .dates)) (k .chosen .ensures)
+    let k = asked c in
+    let a = k .before .args in
+    c .refusal .ensures ∙ ap (λ (x : Chosen). refusalOf (strictOf (a .self .contact)) (x .offer) (a .dates)) (k .chosen .ensures)
 
 chosen-requires : tie.Need-chosen-requires
 chosen-requires c κs = search needs
@@ -33,7 +39,7 @@ refused-booking-requires c κs = search needs
 returns : tie.Need-returns
 returns c =
     let e = c .before .before in
-    let s = e .before .before .before in
+    let s = asked e .before in
     c .refused-booking .ensures
     ∙ ap (λ (n : ℕ). refusedBooking n (s .args .self)) (refusal-is e)
     ∙ sym (chosen-refused _ _ _ (s .pre) _ (λ z. c .before .if1 .taken (refusal-is e ∙ z)))
@@ -42,7 +48,7 @@ cut-requires : tie.Need-cut-requires
 cut-requires c κs =
     let one = c .before .before in
     let e = one .before in
-    let k = e .before .before in
+    let k = asked e in
     let ok = k .before .pre in
     (ok, rw (k .chosen .ensures) (chosen-done _ _ _ ok _ (sym (refusal-is e) ∙ one .if1 .left) .1))
 
@@ -54,7 +60,7 @@ returns-2 c =
     let done = c .before .before .before .before .before in
     let one = done .before .before .before in
     let e = one .before in
-    let k = e .before .before in
+    let k = asked e in
     let s = k .before in
     let a = s .args in
     ap {B = Booked} (λ (m : FreeVolume). record { number = done .cut .result .number; manager = m }) (left-is (a .self) _ _ (done .cut .ensures .1) (c .changed .ensures))
