@@ -1,26 +1,31 @@
 -- Each call, refusal by refusal: what its definition answers where a test is known.
 use Prim.Native.Nat.{ℕ}
 use mathlib.Core.Bool.{true, false}
-use mathlib.Core.Path.{_≡_, refl, ap, _∙_}
+use mathlib.Core.Path.{_≡_, refl, sym, ap, _∙_}
 use mathlib.Core.Logic.{_⊎_, inl, inr}
 use native.Mathlib.Omega.{arith}
+use lib.Dec.{leb}
+use lib.ListN.{length}
 use denote.Enum.Declared.{tagOf}
 use Rattle.units.specs.declared.Date.{Date}
 use Rattle.units.specs.declared.Interval.{Interval}
 use Rattle.units.specs.declared.TxData.{TxData}
 use Rattle.units.specs.declared.Bundle.{Bundle}
-use Rattle.units.specs.Logic.{unless}
-use Rattle.units.specs.Limits.{bundleOk}
-use Rattle.units.specs.Answer.{refused, offers}
-use Rattle.units.proofs.Logic.{unless-go, unless-stop}
-use Rattle.contact.specs.Record.{answerIn}
+use Rattle.units.specs.Limits.{listedMax, bundleOk}
+use Rattle.units.specs.Answer.{refused, offers, bookingOf}
+use Rattle.units.specs.Strict.{forbids}
+use Rattle.units.proofs.Logic.{unless-go, unless-stop, unless-keeps}
+use Rattle.contact.specs.Record.{answerIn, strictOf}
 use Rattle.bookings.specs.declared.Run.{Run}
 use Rattle.bookings.specs.declared.Run.the-variants.{Idle, Going, Sent}
+use Rattle.bookings.specs.declared.Set.{Set}
+use Rattle.bookings.specs.Listed.{listed}
+use Rattle.bookings.specs.Cut.{setOf, setBookings}
 use Rattle.bookings.proofs.Run.{the-type}
 use Rattle.pseg.specs.declared.PrioritySeg.{PrioritySeg}
 use Rattle.pseg.specs.Record.{recordOk}
 use Rattle.pseg.specs.DryRun.{dryRunOf, runOf, answerTo}
-use Rattle.pseg.specs.Book.{bookOf, bookedOf, bookedAt, refusedBooking}
+use Rattle.pseg.specs.Book.{bookOf, bookedAt, refusedBooking}
 
 -- no run reached its end
 abbrev pub Unsent : Run → Type 0
@@ -40,6 +45,18 @@ unsent-answer r (Sent send) u = absurd u
 unsent-answer r (Going send) u = refl
 unsent-answer r Idle u = refl
 
+-- a booking's own numbers are 0, 9 and 10
+module _ (r : PrioritySeg) (n : ℕ) (other : (n ≡ 0 → ⊥) × (n ≡ 9 → ⊥) × (n ≡ 10 → ⊥)) where
+  set-number : (s e w : ℕ) → setBookings (r .bookings) s e w .number ≡ n → ⊥
+  unfolding setBookings
+  set-number s e w =
+      unless-keeps (λ (x : Set). x .number ≡ n → ⊥) (leb (length (setOf s e w (listed (r .bookings)))) listedMax) _ _ (λ _ h. other .2 (sym h)) (λ _ h. other .0 (sym h))
+
+  pub booked-number : (x : Run) (p : ℕ) → bookedAt r x p .number ≡ n → ⊥
+  booked-number (Sent send) p = set-number _ _ _
+  booked-number (Going send) p = λ h. other .1 (sym h)
+  booked-number Idle p = λ h. other .1 (sym h)
+
 module _ (r : PrioritySeg) (at : Date) (b : Bundle) where
   pub dry-record : recordOk r ≡ false → dryRunOf r at b ≡ refused 1
   unfolding dryRunOf
@@ -55,7 +72,7 @@ module _ (r : PrioritySeg) (at : Date) (b : Bundle) where
     dry-bundle e = unless-go _ _ _ ok ∙ unless-stop _ _ _ e
 
     pub book-kept : (d : TxData) → bookOf r at b d
-        ≡ unless (bundleOk at b) (refusedBooking 2 r) (unless (offers (dryRunOf r at b) d) (refusedBooking 9 r) (bookedAt r (runOf r (at .0) b) (b .priority .0)))
+        ≡ bookingOf true (bundleOk at b) (offers (dryRunOf r at b) d) (forbids (strictOf (r .contact)) (d .send)) (λ n. refusedBooking n r) (bookedAt r (runOf r (at .0) b) (b .priority .0))
     unfolding bookOf
     book-kept d = unless-go _ _ _ ok
 
@@ -69,8 +86,3 @@ module _ (r : PrioritySeg) (at : Date) (b : Bundle) where
 
       pub dry-at : (send : Interval) → runOf r (at .0) b ≡ Sent send → dryRunOf r at b ≡ answerIn (r .contact) send
       dry-at send e = dry-fits ∙ ap (answerTo r) e
-
-      pub book-at : (d : TxData) (send : Interval) → runOf r (at .0) b ≡ Sent send → offers (dryRunOf r at b) d ≡ true
-          → bookOf r at b d ≡ bookedOf r send (b .priority .0)
-      book-at d send e o =
-          book-kept d ∙ unless-go _ _ _ fits ∙ unless-go _ _ _ o ∙ ap (λ (x : Run). bookedAt r x (b .priority .0)) e

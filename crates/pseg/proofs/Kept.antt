@@ -1,6 +1,6 @@
 -- A record that an accepted opening or booking hands back keeps the record rules; a refused booking hands back the one that came.
 use Prim.Native.Nat.{ℕ, _+_, _<_, _≤_}
-use mathlib.Core.Bool.{true}
+use mathlib.Core.Bool.{true, false}
 use mathlib.Core.Path.{_≡_, refl, sym, ap, _∙_}
 use mathlib.Core.List.{List, [], _∷_}
 use mathlib.Core.Logic.{⊎-elim, _⊎_, inl, inr}
@@ -13,15 +13,17 @@ use Rattle.units.specs.declared.Date.{Date}
 use Rattle.units.specs.declared.Interval.{Interval}
 use Rattle.units.specs.declared.TxData.{TxData}
 use Rattle.units.specs.declared.Bundle.{Bundle}
+use Rattle.units.specs.Strict.{forbids}
 use Rattle.units.specs.Granted.{refusalOf}
 use Rattle.units.proofs.Logic.{unless-keeps}
 use Rattle.units.proofs.Loads.{asked-load, load}
+use Rattle.units.proofs.Booking.{refusal-none}
 use Rattle.units.proofs.Numbers.{le-or-lt, eq-or-ne}
 use Rattle.segmentation.specs.declared.RateSegment.{RateSegment}
 use Rattle.segmentation.specs.declared.DelaySegment.{DelaySegment}
 use Rattle.contact.specs.declared.Choices.{Choices}
 use Rattle.contact.specs.declared.Opened.{Opened as ContactOpened}
-use Rattle.contact.specs.Record.{contactOk}
+use Rattle.contact.specs.Record.{contactOk, strictOf}
 use Rattle.contact.specs.Open.{contactOf, openContact}
 use Rattle.contact.proofs.Sound.{sound}
 use Rattle.contact.proofs.Fresh.{opened-ok}
@@ -90,6 +92,7 @@ pub record Accepted (r : PrioritySeg) (at : Date) (b : Bundle) (d : TxData) (a :
   pub some : 0 < b .size .0
   pub level : b .priority .0 + 1 ≤ levelMax
   pub found : runOf r (at .0) b ≡ Sent (d .send)
+  pub allowed : forbids (strictOf (r .contact)) (d .send) ≡ false
   pub few : length (setListed r b d) ≤ listedMax
   pub number : a .number ≡ 0
   pub manager : a .manager ≡ record { contact = r .contact; bookings = listIn (setListed r b d) }
@@ -104,7 +107,7 @@ module _ (r : PrioritySeg) (at : Date) (b : Bundle) (d : TxData) (ok : recordOk 
   abbrev bookedBy : Set → Booked
   bookedBy x = record { number = x .number; manager = record { contact = r .contact; bookings = x .bookings } }
 
-  module _ (none : refusalOf (dryRunOf r at b) d ≡ 0) where
+  module _ (none : refusalOf (strictOf (r .contact)) (dryRunOf r at b) d ≡ 0) where
     done-go : (Refused r booked) ⊎ (Accepted r at b d booked)
     done-go =
         let list = setListed r b d in
@@ -117,6 +120,7 @@ module _ (r : PrioritySeg) (at : Date) (b : Bundle) (d : TxData) (ok : recordOk 
           some = l .some;
           level = omega (arith, l .priority);
           found = dry-found r at b d ok none;
+          allowed = refusal-none _ _ d none .1;
           few = few;
           number = ap (λ (x : Booked). x .number) done;
           manager = ap (λ (x : Booked). x .manager) done;
@@ -129,7 +133,7 @@ module _ (r : PrioritySeg) (at : Date) (b : Bundle) (d : TxData) (ok : recordOk 
   -- a booking is refused, and the record is the one that came; or the send interval is set to the priority's level
   pub book-cases : (Refused r booked) ⊎ (Accepted r at b d booked)
   book-cases =
-      let n = refusalOf (dryRunOf r at b) d in
+      let n = refusalOf (strictOf (r .contact)) (dryRunOf r at b) d in
       ⊎-elim
       (λ (none : n ≡ 0). done-go none)
       (λ (some : n ≡ 0 → ⊥). inl (refuse n r booked some (dry-refused r at b d ok some)))

@@ -6,3 +6,4 @@ pub mod Unique
 pub mod Second
 pub mod Never8
 pub mod Boundary
+pub mod Strict

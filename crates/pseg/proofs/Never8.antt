@@ -4,15 +4,15 @@ use mathlib.Core.Bool.{true}
 use mathlib.Core.Path.{_≡_, refl}
 use mathlib.Core.List.{List}
 use native.Mathlib.Omega.{arith}
-use lib.Dec.{leb, eqb}
-use lib.ListN.{length}
+use lib.Dec.{eqb}
 use Rattle.units.specs.declared.Date.{Date}
 use Rattle.units.specs.declared.Interval.{Interval}
 use Rattle.units.specs.declared.TxData.{TxData}
 use Rattle.units.specs.declared.Bundle.{Bundle}
 use Rattle.units.specs.declared.Offer.{Offer}
-use Rattle.units.specs.Limits.{listedMax, bundleOk}
+use Rattle.units.specs.Limits.{bundleOk}
 use Rattle.units.specs.Answer.{refused, offers}
+use Rattle.units.specs.Strict.{forbids}
 use Rattle.units.proofs.Logic.{unless-keeps}
 use Rattle.units.proofs.Booking.{dry-run-keeps, booking-keeps}
 use Rattle.units.proofs.Loads.{asked-load, load}
@@ -21,12 +21,10 @@ use Rattle.segmentation.specs.declared.DelaySegment.{DelaySegment}
 use Rattle.contact.specs.declared.Choices.{Choices}
 use Rattle.contact.specs.declared.Opened.{Opened as ContactOpened}
 use Rattle.contact.specs.Open.{openContact}
+use Rattle.contact.specs.Record.{strictOf}
 use Rattle.contact.proofs.Refusals.{opening-never-8}
 use Rattle.bookings.specs.declared.Run.{Run}
 use Rattle.bookings.specs.declared.Run.the-variants.{Idle, Going, Sent}
-use Rattle.bookings.specs.declared.Set.{Set}
-use Rattle.bookings.specs.Listed.{listed}
-use Rattle.bookings.specs.Cut.{setOf, setBookings}
 use Rattle.pseg.specs.declared.PrioritySeg.{PrioritySeg}
 use Rattle.pseg.specs.declared.Opened.{Opened}
 use Rattle.pseg.specs.declared.Booked.{Booked}
@@ -37,6 +35,7 @@ use Rattle.pseg.specs.DryRun.{runOf, answerTo, dryRunOf}
 use Rattle.pseg.specs.Book.{refusedBooking, bookedAt, bookOf}
 use Rattle.pseg.specs.List.{listOf}
 use Rattle.pseg.proofs.Facts.{facts, found-answers}
+use Rattle.pseg.proofs.Calls.{booked-number}
 
 abbrev Not8 : ℕ → Type 0
 Not8 n = n ≡ 8 → ⊥
@@ -53,21 +52,12 @@ module _ (r : PrioritySeg) (at : Date) (b : Bundle) where
       dry-run-keeps (λ (o : Offer). Not8 (o .number)) (recordOk r) (bundleOk at b) refused (λ h. omega arith) (λ h. omega arith) _
       (λ ok fits. answer-never-8 ok fits (runOf r (at .0) b) refl)
 
-  set-never-8 : (s e w : ℕ) → Not8 (setBookings (r .bookings) s e w .number)
-  unfolding setBookings
-  set-never-8 s e w = unless-keeps (λ (x : Set). Not8 (x .number)) (leb (length (setOf s e w (listed (r .bookings)))) listedMax) _ _ (λ f h. omega arith) (λ f h. omega arith)
-
-  booked-never-8 : (x : Run) (p : ℕ) → Not8 (bookedAt r x p .number)
-  booked-never-8 (Sent send) p = set-never-8 _ _ _
-  booked-never-8 (Going send) p = λ h. omega arith
-  booked-never-8 Idle p = λ h. omega arith
-
   pub book-never-8 : (d : TxData) → Not8 (bookOf r at b d .number)
   unfolding bookOf
   book-never-8 d =
       booking-keeps (λ (x : Booked). Not8 (x .number)) (recordOk r) (bundleOk at b) (λ (n : ℕ). refusedBooking n r) (λ h. omega arith) (λ h. omega arith)
-      (offers (dryRunOf r at b) d) (bookedAt r (runOf r (at .0) b) (b .priority .0)) (λ h. omega arith)
-      (λ ok. booked-never-8 (runOf r (at .0) b) (b .priority .0))
+      (offers (dryRunOf r at b) d) (forbids (strictOf (r .contact)) (d .send)) (bookedAt r (runOf r (at .0) b) (b .priority .0)) (λ h. omega arith) (λ h. omega arith)
+      (λ ok fits same free h. booked-number r 8 (λ z. omega arith, λ z. omega arith, λ z. omega arith) (runOf r (at .0) b) (b .priority .0) h)
 
 pub list-never-8 : (r : PrioritySeg) → Not8 (listOf r .number)
 unfolding listOf

@@ -1,12 +1,13 @@
--- 01, "Refusal numbers", Booking: 1, 2, 9, then 10; a refusal hands the record back as it came.
+-- 01, "Refusal numbers", Booking, and 02, R-7: 1, 2, 9, 17, then 10; a refusal hands the record back as it came.
 use Prim.Native.Nat.{ℕ, _+_}
 use Rattle.units.specs.declared.Date.{Date}
 use Rattle.units.specs.declared.Interval.{Interval}
 use Rattle.units.specs.declared.TxData.{TxData}
 use Rattle.units.specs.declared.Bundle.{Bundle}
-use Rattle.units.specs.Logic.{unless}
 use Rattle.units.specs.Limits.{bundleOk}
-use Rattle.units.specs.Answer.{offers}
+use Rattle.units.specs.Answer.{offers, bookingOf}
+use Rattle.units.specs.Strict.{forbids}
+use Rattle.contact.specs.Record.{strictOf}
 use Rattle.bookings.specs.declared.Run.{Run}
 use Rattle.bookings.specs.declared.Run.the-variants.{Idle, Going, Sent}
 use Rattle.bookings.specs.declared.Set.{Set}
@@ -38,7 +39,5 @@ bookedAt r Idle p = refusedBooking 9 r
 -- the booking
 unfoldable pub bookOf : PrioritySeg → Date → Bundle → TxData → Booked
 bookOf r at b d =
-    unless (recordOk r) (refusedBooking 1 r)
-    (unless (bundleOk at b) (refusedBooking 2 r)
-    (unless (offers (dryRunOf r at b) d) (refusedBooking 9 r)
-    (bookedAt r (runOf r (at .0) b) (b .priority .0))))
+    bookingOf (recordOk r) (bundleOk at b) (offers (dryRunOf r at b) d) (forbids (strictOf (r .contact)) (d .send)) (λ n. refusedBooking n r)
+    (bookedAt r (runOf r (at .0) b) (b .priority .0))

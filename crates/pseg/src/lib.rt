@@ -214,7 +214,7 @@ impl PrioritySeg {
         ensures { λ r. ⌜ r ≡ bookOf self at bundle dates ⌝ }
     {
         let offer = self.dry_run_kept(at, bundle);
-        let number = offer.refusal(dates);
+        let number = offer.refusal(self.contact.choices.strict, dates);
         if number != 0 {
             return self.refused_booking(number);
         }
@@ -230,7 +230,7 @@ impl PrioritySeg {
         }
     }
 
-    // schedule_tx, with the time that the dry run was asked: 1, 2, 9, then 10.
+    // schedule_tx, with the time that the dry run was asked: 1, 2, 9, 17, then 10.
     pub fn book(self, at: Date, bundle: Bundle, dates: TxData) -> Booked
         ensures { λ r. ⌜ r ≡ bookOf self at bundle dates ⌝ }
     {
