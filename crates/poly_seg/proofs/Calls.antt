@@ -3,26 +3,30 @@ use Prim.Native.Nat.{ℕ, _≤_}
 use mathlib.Core.Bool.{Bool, true, false}
 use mathlib.Core.Path.{_≡_, refl, sym, ap, _∙_}
 use mathlib.Core.List.{[]}
+use mathlib.Core.Logic.{⊎-elim}
 use Rattle.units.specs.declared.Date.{Date}
 use Rattle.units.specs.declared.TxData.{TxData}
 use Rattle.units.specs.declared.Bundle.{Bundle}
 use Rattle.units.specs.declared.Offer.{Offer}
 use Rattle.units.specs.Logic.{unless}
 use Rattle.units.specs.Limits.{bundleOk}
-use Rattle.units.specs.Answer.{refused, offers}
+use Rattle.units.specs.Answer.{refused, offers, bookingOf}
+use Rattle.units.specs.Strict.{forbids}
 use Rattle.units.specs.Granted.{refusalOf}
 use Rattle.units.proofs.Logic.{unless-go, unless-stop}
+use Rattle.units.proofs.Booking.{refusal-none}
 use Rattle.units.proofs.Loads.{asked-load, load}
 use Rattle.free_list.specs.declared.Found.{Found}
 use Rattle.free_list.specs.declared.Found.the-variants.{At, None}
 use Rattle.free_list.specs.Cut.{listIn}
 use Rattle.free_list.specs.Granted.{Inside, noneChosen, chosenAt, chosenIn}
+use Rattle.free_list.proofs.CutList.{cut-number}
 use Rattle.free_list.proofs.ByChoice.{chosen-stop, chosen-found as by-found, table, table-refused, table-fits, table-found, table-done}
 use Rattle.poly_seg.specs.declared.PolySeg.{PolySeg}
 use Rattle.poly_seg.specs.declared.Booked.{Booked}
-use Rattle.poly_seg.specs.Record.{delaysAt, recordOk}
+use Rattle.poly_seg.specs.Record.{strictOf, delaysAt, recordOk}
 use Rattle.poly_seg.specs.DryRun.{dryRunOf, foundOf, answerTo}
-use Rattle.poly_seg.specs.Book.{bookOf, bookedOf, bookedAt, refusedBooking}
+use Rattle.poly_seg.specs.Book.{bookOf, bookedOf, bookedAt, refusedBooking, cutFree}
 use Rattle.poly_seg.specs.List.{listOf}
 use Rattle.poly_seg.specs.Granted.{chosenOf}
 use Rattle.poly_seg.proofs.Facts.{facts, cut-asks}
@@ -41,6 +45,14 @@ module _ (r : PolySeg) where
   same-offer true (At i send) = refl
   same-offer true None = refl
   same-offer false f = refl
+
+-- a booking's own numbers are 0, 9 and 10
+module _ (r : PolySeg) (n : ℕ) (other : (n ≡ 0 → ⊥) × (n ≡ 9 → ⊥) × (n ≡ 10 → ⊥)) where
+  pub booked-number : (f : Found) → bookedAt r f .number ≡ n → ⊥
+  booked-number (At i send) h =
+      ⊎-elim (λ (z : cutFree r i send .number ≡ 0). other .0 (sym h ∙ z)) (λ (z : cutFree r i send .number ≡ 10). other .2 (sym h ∙ z))
+      (cut-number 1 [] (r .free) i (send .start .0) (send .end .0) 0)
+  booked-number None h = other .1 (sym h)
 
 module _ (r : PolySeg) (at : Date) (b : Bundle) where
   pub dry-record : recordOk r ≡ false → dryRunOf r at b ≡ refused 1
@@ -71,29 +83,37 @@ module _ (r : PolySeg) (at : Date) (b : Bundle) where
     chosen-offer = same-offer r (bundleOk at b) found ∙ sym (unless-go _ _ _ ok)
 
     module _ (d : TxData) where
-      book-is : bookOf r at b d ≡ table (bundleOk at b) (delaysAt r) found d refuse (bookedAt r)
+      book-is : bookOf r at b d ≡ table (bundleOk at b) (delaysAt r) found (strictOf r) d refuse (bookedAt r)
       unfolding bookOf chosenOf
       book-is =
           unless-go _ _ _ ok
-          ∙ ap (λ (o : Offer). unless (bundleOk at b) (refuse 2) (unless (offers o d) (refuse 9) (bookedAt r found))) (sym chosen-offer)
+          ∙ ap (λ (o : Offer). bookingOf true (bundleOk at b) (offers o d) (forbids (strictOf r) (d .send)) refuse (bookedAt r found)) (sym chosen-offer)
 
-      pub chosen-refused : (refusalOf (chosenOf r at b .offer) d ≡ 0 → ⊥) → bookOf r at b d ≡ refusedBooking (refusalOf (chosenOf r at b .offer) d) r
+      pub chosen-refused : (refusalOf (strictOf r) (chosenOf r at b .offer) d ≡ 0 → ⊥) → bookOf r at b d ≡ refusedBooking (refusalOf (strictOf r) (chosenOf r at b .offer) d) r
       unfolding chosenOf
-      chosen-refused some = book-is ∙ table-refused (bundleOk at b) (delaysAt r) found d refuse (bookedAt r) some
+      chosen-refused some = book-is ∙ table-refused (bundleOk at b) (delaysAt r) found (strictOf r) d refuse (bookedAt r) some
 
-      module _ (none : refusalOf (chosenOf r at b .offer) d ≡ 0) where
+      -- dates that the dry run offers send what the search found
+      module _ (same : offers (dryRunOf r at b) d ≡ true) where
+        shows : offers (chosenOf r at b .offer) d ≡ true
+        shows = ap (λ (o : Offer). offers o d) chosen-offer ∙ same
+
         pub chosen-some : 1 ≤ b .size .0
         unfolding chosenOf
-        chosen-some = load b (asked-load at b (table-fits (bundleOk at b) (delaysAt r) found d refuse (bookedAt r) none)) .some
+        chosen-some = load b (asked-load at b (table-fits (bundleOk at b) (delaysAt r) found (strictOf r) d refuse (bookedAt r) shows)) .some
 
-        -- the dates send what the search found
         pub chosen-found : foundOf r (at .0) (b .size .0) ≡ At (chosenOf r at b .place) (d .send)
         unfolding chosenOf
-        chosen-found = table-found (bundleOk at b) (delaysAt r) found d refuse (bookedAt r) none
+        chosen-found = table-found (bundleOk at b) (delaysAt r) found (strictOf r) d refuse (bookedAt r) shows
+
+      module _ (none : refusalOf (strictOf r) (chosenOf r at b .offer) d ≡ 0) where
+        -- what is not refused is offered
+        pub chosen-same : offers (dryRunOf r at b) d ≡ true
+        chosen-same = sym (ap (λ (o : Offer). offers o d) chosen-offer) ∙ refusal-none (strictOf r) _ d none .0
 
         pub chosen-done : (bookOf r at b d ≡ bookedOf r (chosenOf r at b .place) (d .send)) × Inside (r .free) (chosenOf r at b .place) 0
         unfolding chosenOf
         chosen-done = (
-          book-is ∙ table-done (bundleOk at b) (delaysAt r) found d refuse (bookedAt r) none,
-          cut-asks r (facts r ok) (at .0) (b .size .0) chosen-some _ (d .send) chosen-found,
+          book-is ∙ table-done (bundleOk at b) (delaysAt r) found (strictOf r) d refuse (bookedAt r) none,
+          cut-asks r (facts r ok) (at .0) (b .size .0) (chosen-some chosen-same) _ (d .send) (chosen-found chosen-same),
         )

@@ -1,15 +1,14 @@
 -- 02, R-6, of the manager's offers: in mode 2 a send carries exactly the size, or it carries more and one tick earlier it carries less; and where its end is the first tick.
 use Prim.Native.Nat.{ℕ, _*_, _≤_}
 use mathlib.Core.Bool.{true}
-use mathlib.Core.Path.{_≡_, ap, _∙_}
+use mathlib.Core.Path.{_≡_}
 use native.Mathlib.Omega.{arith}
 use lib.ListN.{getD}
 use Rattle.units.specs.declared.Date.{Date}
 use Rattle.units.specs.declared.Bundle.{Bundle}
 use Rattle.units.specs.declared.Interval.{Interval}
-use Rattle.units.specs.declared.Offer.{Offer}
 use Rattle.units.specs.declared.TxData.{TxData}
-use Rattle.units.specs.Granted.{refusalOf}
+use Rattle.units.specs.Answer.{offers}
 use Rattle.segmentation.specs.declared.VolumeSegment.{VolumeSegment}
 use Rattle.segmentation.specs.declared.End.the-variants.{At as ends-at}
 use Rattle.contact.specs.Segments.{zeroVolume}
@@ -25,8 +24,7 @@ use Rattle.poly.proofs.Modes.{wanted-exact}
 use Rattle.poly_seg.specs.declared.PolySeg.{PolySeg}
 use Rattle.poly_seg.specs.Record.{recordOk}
 use Rattle.poly_seg.specs.DryRun.{capacityOf, sizeOf, dryRunOf, foundOf}
-use Rattle.poly_seg.specs.Granted.{chosenOf}
-use Rattle.poly_seg.proofs.Calls.{chosen-offer, chosen-some, chosen-found}
+use Rattle.poly_seg.proofs.Calls.{chosen-some, chosen-found}
 use Rattle.poly_seg.proofs.Facts.{Facts, facts}
 use Rattle.poly_seg.proofs.Picked.{Picked, offer-picked}
 
@@ -59,14 +57,11 @@ module _ (r : PolySeg) (mode : r .choices .mode .0 ≡ 2) where
         (λ k a b. never k (omega (arith, a, e .from, found .from)) (omega (arith, b, found .to)))
         (λ k a b. always k (omega (arith, a, e .from, found .from)) (omega (arith, b, found .to)))
 
-  -- whatever dates a booking may state after a dry run
-  module _ (at : Date) (b : Bundle) (d : TxData) (ok : recordOk r ≡ true) (none : refusalOf (dryRunOf r at b) d ≡ 0) where
-    agreed : refusalOf (chosenOf r at b .offer) d ≡ 0
-    agreed = ap (λ (o : Offer). refusalOf o d) (chosen-offer r at b ok) ∙ none
-
+  -- whatever dates a dry run offers
+  module _ (at : Date) (b : Bundle) (d : TxData) (ok : recordOk r ≡ true) (same : offers (dryRunOf r at b) d ≡ true) where
     pub offer-exact : Carries (r .polynome) (d .send .start .0) (d .send .end .0) (b .size .0)
-    offer-exact = found-exact (facts r ok) (at .0) (b .size .0) (chosen-some r at b ok d agreed) _ (d .send) (chosen-found r at b ok d agreed)
+    offer-exact = found-exact (facts r ok) (at .0) (b .size .0) (chosen-some r at b ok d same) _ (d .send) (chosen-found r at b ok d same)
 
     pub offer-first : NotBelow (r .polynome) (r .window .start .0) (r .window .end .0) → Above (r .polynome) (r .window .start .0) (r .window .end .0)
         → First (r .polynome) (d .send .start .0) (d .send .end .0) (b .size .0)
-    offer-first = found-first (facts r ok) (at .0) (b .size .0) (chosen-some r at b ok d agreed) _ (d .send) (chosen-found r at b ok d agreed)
+    offer-first = found-first (facts r ok) (at .0) (b .size .0) (chosen-some r at b ok d same) _ (d .send) (chosen-found r at b ok d same)

@@ -31,14 +31,14 @@ use Rattle.poly_seg.specs.declared.PolySeg.{PolySeg}
 use Rattle.poly_seg.specs.declared.Opened.{Opened}
 use Rattle.poly_seg.specs.declared.Booked.{Booked}
 use Rattle.poly_seg.specs.Open.{openOf}
-use Rattle.poly_seg.specs.Record.{recordOk}
+use Rattle.poly_seg.specs.Record.{strictOf, recordOk}
 use Rattle.poly_seg.specs.DryRun.{foundOf}
 use Rattle.poly_seg.specs.Book.{bookOf, bookedOf, refusedBooking, withFree}
 use Rattle.poly_seg.specs.Granted.{chosenOf}
 use Rattle.poly_seg.proofs.Lookup.{delays-most, by-takes}
 use Rattle.poly_seg.proofs.Opening.{Passed, doneOf, open-done, open-passed}
 use Rattle.poly_seg.proofs.Facts.{facts, record-kept, found-offered}
-use Rattle.poly_seg.proofs.Calls.{chosen-refused, chosen-some, chosen-found, chosen-done}
+use Rattle.poly_seg.proofs.Calls.{chosen-refused, chosen-some, chosen-same, chosen-found, chosen-done}
 
 -- The opening.
 zero-delay : noDelay zeroDelay ≡ true
@@ -93,16 +93,16 @@ module _ (r : PolySeg) (at : Date) (b : Bundle) (d : TxData) (ok : recordOk r �
   abbrev booked : Booked
   booked = bookOf r at b d
 
-  at-place : refusalOf (chosenOf r at b .offer) d ≡ 0 → (Refused r booked) ⊎ (Accepted r at b d booked)
+  at-place : refusalOf (strictOf r) (chosenOf r at b .offer) d ≡ 0 → (Refused r booked) ⊎ (Accepted r at b d booked)
   at-place none =
       let i = chosenOf r at b .place in
       let is : booked ≡ bookedOf r i (d .send) = chosen-done r at b ok d none .0 in
       ⊎-elim
       (λ (z : cutList 1 [] (r .free) i (d .send .start .0) (d .send .end .0) 0 .number ≡ 0).
       inr (record {
-        some = chosen-some r at b ok d none;
+        some = chosen-some r at b ok d (chosen-same r at b ok d none);
         place = i;
-        found = chosen-found r at b ok d none;
+        found = chosen-found r at b ok d (chosen-same r at b ok d none);
         few = cut-few 1 [] (r .free) i (d .send .start .0) (d .send .end .0) 0 z;
         number = ap (λ (x : Booked). x .number) is ∙ z;
         manager = ap (λ (x : Booked). x .manager) is ∙ ap (withFree r) (cut-list 1 [] (r .free) i (d .send .start .0) (d .send .end .0) 0 z);
@@ -119,8 +119,8 @@ module _ (r : PolySeg) (at : Date) (b : Bundle) (d : TxData) (ok : recordOk r �
   book-cases =
       ⊎-elim
       at-place
-      (λ (some : refusalOf (chosenOf r at b .offer) d ≡ 0 → ⊥). inl (refuse _ r booked some (chosen-refused r at b ok d some)))
-      (eq-or-ne (refusalOf (chosenOf r at b .offer) d) 0)
+      (λ (some : refusalOf (strictOf r) (chosenOf r at b .offer) d ≡ 0 → ⊥). inl (refuse _ r booked some (chosen-refused r at b ok d some)))
+      (eq-or-ne (refusalOf (strictOf r) (chosenOf r at b .offer) d) 0)
 
   -- no call ever meets refusal 1 after a fresh opening
   pub book-keeps : recordOk (booked .manager) ≡ true

@@ -10,3 +10,4 @@ pub mod Exact
 pub mod Never8
 pub mod Boundary
 pub mod Unique
+pub mod Strict

@@ -1,13 +1,13 @@
--- 01, "Refusal numbers", Booking: 1, 2, 9, then 10; cutting as the free-volume manager's, without volumes.
+-- 01, "Refusal numbers", Booking, and 02, R-7: 1, 2, 9, 17, then 10; cutting as the free-volume manager's, without volumes.
 use Prim.Native.Nat.{ℕ}
 use mathlib.Core.List.{[]}
 use Rattle.units.specs.declared.Date.{Date}
 use Rattle.units.specs.declared.Interval.{Interval}
 use Rattle.units.specs.declared.TxData.{TxData}
 use Rattle.units.specs.declared.Bundle.{Bundle}
-use Rattle.units.specs.Logic.{unless}
 use Rattle.units.specs.Limits.{bundleOk}
-use Rattle.units.specs.Answer.{offers}
+use Rattle.units.specs.Answer.{offers, bookingOf}
+use Rattle.units.specs.Strict.{forbids}
 use Rattle.free_list.specs.declared.Found.{Found}
 use Rattle.free_list.specs.declared.Found.the-variants.{At, None}
 use Rattle.free_list.specs.declared.FreeList.{FreeList}
@@ -15,7 +15,7 @@ use Rattle.free_list.specs.declared.Cut.{Cut}
 use Rattle.free_list.specs.Cut.{cutList}
 use Rattle.poly_seg.specs.declared.PolySeg.{PolySeg}
 use Rattle.poly_seg.specs.declared.Booked.{Booked}
-use Rattle.poly_seg.specs.Record.{recordOk}
+use Rattle.poly_seg.specs.Record.{strictOf, recordOk}
 use Rattle.poly_seg.specs.DryRun.{dryRunOf, foundOf}
 
 abbrev pub refusedBooking : ℕ → PolySeg → Booked
@@ -44,7 +44,5 @@ bookedAt r None = refusedBooking 9 r
 -- the booking
 unfoldable pub bookOf : PolySeg → Date → Bundle → TxData → Booked
 bookOf r at b d =
-    unless (recordOk r) (refusedBooking 1 r)
-    (unless (bundleOk at b) (refusedBooking 2 r)
-    (unless (offers (dryRunOf r at b) d) (refusedBooking 9 r)
-    (bookedAt r (foundOf r (at .0) (b .size .0)))))
+    bookingOf (recordOk r) (bundleOk at b) (offers (dryRunOf r at b) d) (forbids (strictOf r) (d .send)) (λ n. refusedBooking n r)
+    (bookedAt r (foundOf r (at .0) (b .size .0)))

@@ -25,6 +25,10 @@ delayList r = take (r .«delay_count») (r .delays)
 abbrev pub ruleOf : PolySeg → ℕ
 ruleOf r = r .choices .rule .0
 
+-- its strict flag
+abbrev pub strictOf : PolySeg → ℕ
+strictOf r = r .choices .strict .0
+
 -- the delays at a send start and a send end by it, and the answer with a send interval
 abbrev pub delaysAt : PolySeg → ℕ → ℕ → Delays
 delaysAt r = delaysOf (ruleOf r) (delayList r)

@@ -17,6 +17,7 @@ use units::Date;
 use units::Delay;
 use units::Interval;
 use units::Offer;
+use units::Strict;
 use units::TxData;
 use units::Volume;
 ghost use mathlib.Core.Path.{_≡_};
@@ -39,11 +40,12 @@ ghost use Rattle.poly_seg.specs.Book.{bookOf, cutFree, refusedBooking};
 ghost use Rattle.poly_seg.specs.List.{listOf};
 ghost use Rattle.poly_seg.specs.Granted.{numberBy, chosenOf};
 
-// What an opening chooses and the record names: the mode in which capacity is counted and the rule of the delays.
+// What an opening chooses and the record names: the mode in which capacity is counted, the rule of the delays and the strict flag.
 #[repr(C)]
 pub struct Choices {
     pub mode: Mode,
     pub rule: Rule,
+    pub strict: Strict,
 }
 
 impl Choices {
@@ -54,6 +56,7 @@ impl Choices {
         Choices {
             mode: Mode(Mode::PORTED),
             rule: Rule(Rule::FIRST),
+            strict: Strict(Strict::OFF),
         }
     }
 
@@ -64,7 +67,11 @@ impl Choices {
         if !units::one_or_two(self.mode.0) {
             return false;
         }
-        units::one_or_two(self.rule.0)
+        if !units::one_or_two(self.rule.0) {
+            return false;
+        }
+        let strict = self.strict;
+        strict.ok()
     }
 }
 
@@ -234,6 +241,7 @@ impl PolySeg {
                 choices: Choices {
                     mode: Mode(0),
                     rule: Rule(0),
+                    strict: Strict(0),
                 },
                 window: Interval {
                     start: Date(0),
@@ -429,7 +437,7 @@ impl PolySeg {
         let c = self.chosen(at, bundle);
         let offer = c.offer;
         let place = c.place;
-        let number = offer.refusal(dates);
+        let number = offer.refusal(self.choices.strict, dates);
         if number != 0 {
             return self.refused_booking(number);
         }
@@ -444,7 +452,7 @@ impl PolySeg {
         }
     }
 
-    // schedule_tx, with the time that the dry run was asked: 1, 2, 9, then 10.
+    // schedule_tx, with the time that the dry run was asked: 1, 2, 9, 17, then 10.
     pub fn book(self, at: Date, bundle: Bundle, dates: TxData) -> Booked
         ensures { λ r. ⌜ r ≡ bookOf self at bundle dates ⌝ }
     {

@@ -1,0 +1,23 @@
+-- 02, R-7: a record, a booking's answer and an opening's with the flag at a number, and all else as it is.
+use Prim.Native.Nat.{ℕ}
+use Rattle.poly_seg.specs.declared.PolySeg.{PolySeg}
+use Rattle.poly_seg.specs.declared.Opened.{Opened}
+use Rattle.poly_seg.specs.declared.Booked.{Booked}
+use Rattle.poly_seg.specs.Choices.{flagging}
+
+abbrev pub flagged : ℕ → PolySeg → PolySeg
+flagged n r =
+    record {
+      choices = flagging n (r .choices);
+      window = r .window;
+      polynome = r .polynome;
+      delays = r .delays;
+      «delay_count» = r .«delay_count»;
+      free = r .free;
+    }
+
+abbrev pub turned : ℕ → Booked → Booked
+turned n a = record { number = a .number; manager = flagged n (a .manager) }
+
+abbrev pub turnedOpening : ℕ → Opened → Opened
+turnedOpening n o = record { number = o .number; manager = flagged n (o .manager) }
