@@ -3,6 +3,7 @@ use Prim.Native.Nat.{ℕ, _<_}
 use mathlib.Core.Bool.{true, false}
 use mathlib.Core.Path.{_≡_}
 use mathlib.Core.List.{List}
+use native.Mathlib.Omega.{arith}
 use lib.Dec.{leb, lit<}
 use lib.ListN.{take}
 use Rattle.units.specs.declared.Date.{Date}
@@ -15,35 +16,41 @@ use Rattle.units.specs.declared.Bundle.{Bundle}
 use Rattle.units.specs.Logic.{allOf}
 use Rattle.units.specs.Limits.{windowOk, loadOk, bundleOk, delayMax}
 use Rattle.units.specs.Answer.{offers}
+use Rattle.units.specs.Strict.{forbids}
 use Rattle.units.proofs.Logic.{pick-keeps, unless-keeps}
+use Rattle.units.proofs.Booking.{booking-keeps}
+use Rattle.legacy.specs.declared.Choices.{Choices}
 use Rattle.legacy.specs.declared.Flags.{Flags}
 use Rattle.legacy.specs.declared.Queue.{Queue}
 use Rattle.legacy.specs.declared.Opened.{Opened}
 use Rattle.legacy.specs.declared.Booked.{Booked}
+use Rattle.legacy.specs.Choices.{choicesOk}
 use Rattle.legacy.specs.Open.{atLeast, zeros, rateOk, budgetsOk, refusedOpening, openOf}
-use Rattle.legacy.specs.Record.{recordOk}
+use Rattle.legacy.specs.Record.{strictOf, recordOk}
 use Rattle.legacy.specs.DryRun.{dryRunOf}
 use Rattle.legacy.specs.Queueing.{addTo, takeFrom, refusedQueueing, withQueues, reached, roomFor, enqueueAt, dequeueAt, manually, enqueueOf, dequeueOf}
 use Rattle.legacy.specs.Book.{bookOf}
 
 -- the record of an opening that is done
-abbrev pub freshOf : Interval → Rate → Delay → ℕ → Flags → List Volume → Queue
-freshOf w r d n flags budgets =
-    record { window = w; rate = r; delay = d; classes = n; flags = flags; queues = zeros; budgets = budgets }
+abbrev pub freshOf : Choices → Interval → Rate → Delay → ℕ → Flags → List Volume → Queue
+freshOf h w r d n flags budgets =
+    record { choices = h; window = w; rate = r; delay = d; classes = n; flags = flags; queues = zeros; budgets = budgets }
 
-pub opening-keeps : (w : Interval) (r : Rate) (d : Delay) (n : ℕ) (flags : Flags) (budgets : List Volume) (P : Opened → Type 0)
+pub opening-keeps : (h : Choices) (w : Interval) (r : Rate) (d : Delay) (n : ℕ) (flags : Flags) (budgets : List Volume) (P : Opened → Type 0)
+    → P (refusedOpening 2)
     → P (refusedOpening 3)
     → P (refusedOpening 6)
     → P (refusedOpening 5)
     → P (refusedOpening 14)
-    → P (record { number = 0; manager = freshOf w r d n flags budgets })
-    → P (openOf w r d n flags budgets)
+    → P (record { number = 0; manager = freshOf h w r d n flags budgets })
+    → P (openOf h w r d n flags budgets)
 unfolding openOf
-opening-keeps w r d n flags budgets P p3 p6 p5 p14 p0 =
-    unless-keeps P (windowOk w) _ _ (λ _. p3)
+opening-keeps h w r d n flags budgets P p2 p3 p6 p5 p14 p0 =
+    unless-keeps P (choicesOk h) _ _ (λ _. p2)
+    (λ _. unless-keeps P (windowOk w) _ _ (λ _. p3)
     (λ _. unless-keeps P (rateOk w (r .0)) _ _ (λ _. p6)
     (λ _. unless-keeps P (leb (d .0) delayMax) _ _ (λ _. p5)
-    (λ _. unless-keeps P (budgetsOk n flags budgets) _ _ (λ _. p14) (λ _. p0))))
+    (λ _. unless-keeps P (budgetsOk n flags budgets) _ _ (λ _. p14) (λ _. p0)))))
 
 -- the tests before a bundle is queued or taken by hand
 pub record Manual (r : Queue) (b : Bundle) : Type 0 where
@@ -82,15 +89,15 @@ module _ (r : Queue) (b : Bundle) (P : Booked → Type 0) (refused : (n : ℕ) �
   unfolding dequeueOf
   dequeue-keeps p = manual-keeps (dequeueAt r b) p
 
--- a booking's own refusals are 1, 2 and 9
+-- a booking's own refusals are 1, 2, 9 and 17, none of them 13
 pub book-keeps : (r : Queue) (b : Bundle) (P : Booked → Type 0) (at : Date) (d : TxData)
-    → ((n : ℕ) → 0 < n → n < 10 → P (refusedQueueing n r))
+    → ((n : ℕ) → 0 < n → (n ≡ 13 → ⊥) → P (refusedQueueing n r))
     → (Offered r at b d → r .flags .«self_update» ≡ true → P (enqueueAt r b))
     → P (record { number = 0; manager = r })
     → P (bookOf r at b d)
 unfolding bookOf
 book-keeps r b P at d refused p q =
-    unless-keeps P (recordOk r) _ _ (λ _. refused 1 (lit< tt) (lit< tt))
-    (λ k. unless-keeps P (bundleOk at b) _ _ (λ _. refused 2 (lit< tt) (lit< tt))
-    (λ f. unless-keeps P (offers (dryRunOf r at b) d) _ _ (λ _. refused 9 (lit< tt) (lit< tt))
-    (λ s. pick-keeps P (r .flags .«self_update») _ _ (p (record { kept = k; fair = f; same = s })) (λ _. q))))
+    let refuse : (n : ℕ) → Booked = λ n. refusedQueueing n r in
+    booking-keeps P (recordOk r) (bundleOk at b) refuse (refused 1 (lit< tt) (λ e. omega arith)) (refused 2 (lit< tt) (λ e. omega arith)) (offers (dryRunOf r at b) d) (forbids (strictOf r) (d .send)) _
+    (refused 9 (lit< tt) (λ e. omega arith)) (refused 17 (lit< tt) (λ e. omega arith))
+    (λ k f s _. pick-keeps P (r .flags .«self_update») _ _ (p (record { kept = k; fair = f; same = s })) (λ _. q))

@@ -72,7 +72,7 @@ budgeted n flags l e =
 
 pub sound : (r : Queue) → recordOk r ≡ true → Sound r
 sound r e =
-    let e1 = sym (record-tests r) ∙ e in
+    let e1 = both-snd _ _ (sym (record-tests r) ∙ e) in
     let e2 = both-snd _ _ e1 in
     let e3 = both-snd _ _ e2 in
     let e4 = both-snd _ _ e3 in

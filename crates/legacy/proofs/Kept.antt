@@ -17,6 +17,7 @@ use Rattle.units.specs.Logic.{allOf}
 use Rattle.units.proofs.Logic.{both-fst, both-snd, both-yes}
 use Rattle.units.proofs.Arrays.{all-replicate}
 use Rattle.units.proofs.Each.{all-take, all-drop}
+use Rattle.legacy.specs.declared.Choices.{Choices}
 use Rattle.legacy.specs.declared.Flags.{Flags}
 use Rattle.legacy.specs.declared.Queue.{Queue}
 use Rattle.legacy.specs.declared.Opened.{Opened}
@@ -29,25 +30,25 @@ use Rattle.legacy.proofs.Answers.{freshOf, opening-keeps, put-keeps, pu
 use Rattle.legacy.proofs.First.{more, less, add-is, take-is, first-all, first-drop}
 use Rattle.legacy.proofs.Facts.{sound}
 
-module _ (w : Interval) (r : Rate) (d : Delay) (n : ℕ) (flags : Flags) (budgets : List Volume) where
-  pub opened-is : openOf w r d n flags budgets .number ≡ 0 → openOf w r d n flags budgets .manager ≡ freshOf w r d n flags budgets
+module _ (h : Choices) (w : Interval) (r : Rate) (d : Delay) (n : ℕ) (flags : Flags) (budgets : List Volume) where
+  pub opened-is : openOf h w r d n flags budgets .number ≡ 0 → openOf h w r d n flags budgets .manager ≡ freshOf h w r d n flags budgets
   opened-is =
-      opening-keeps w r d n flags budgets (λ (o : Opened). o .number ≡ 0 → o .manager ≡ freshOf w r d n flags budgets)
-      (λ e. absurd (omega arith)) (λ e. absurd (omega arith)) (λ e. absurd (omega arith)) (λ e. absurd (omega arith)) (λ _. refl)
+      opening-keeps h w r d n flags budgets (λ (o : Opened). o .number ≡ 0 → o .manager ≡ freshOf h w r d n flags budgets)
+      (λ e. absurd (omega arith)) (λ e. absurd (omega arith)) (λ e. absurd (omega arith)) (λ e. absurd (omega arith)) (λ e. absurd (omega arith)) (λ _. refl)
 
-  fresh-ok : openOf w r d n flags budgets .number ≡ 0 → recordOk (freshOf w r d n flags budgets) ≡ true
+  fresh-ok : openOf h w r d n flags budgets .number ≡ 0 → recordOk (freshOf h w r d n flags budgets) ≡ true
   unfolding recordOk
   fresh-ok e =
       both-yes _ _ (eq-eqb _ _ e)
       (both-yes _ _ (all-take (atMost queueMax) n zeros (all-replicate (atMost queueMax) classesMax _ refl)) (all-drop isZero n zeros (all-replicate isZero classesMax _ refl)))
 
-  pub opened-ok : openOf w r d n flags budgets .number ≡ 0 → recordOk (openOf w r d n flags budgets .manager) ≡ true
+  pub opened-ok : openOf h w r d n flags budgets .number ≡ 0 → recordOk (openOf h w r d n flags budgets .manager) ≡ true
   opened-ok e = ap recordOk (opened-is e) ∙ fresh-ok e
 
-  pub opened-refused : (openOf w r d n flags budgets .number ≡ 0 → ⊥) → openOf w r d n flags budgets ≡ refusedOpening (openOf w r d n flags budgets .number)
+  pub opened-refused : (openOf h w r d n flags budgets .number ≡ 0 → ⊥) → openOf h w r d n flags budgets ≡ refusedOpening (openOf h w r d n flags budgets .number)
   opened-refused =
-      opening-keeps w r d n flags budgets (λ (o : Opened). (o .number ≡ 0 → ⊥) → o ≡ refusedOpening (o .number))
-      (λ _. refl) (λ _. refl) (λ _. refl) (λ _. refl) (λ f. absurd (f refl))
+      opening-keeps h w r d n flags budgets (λ (o : Opened). (o .number ≡ 0 → ⊥) → o ≡ refusedOpening (o .number))
+      (λ _. refl) (λ _. refl) (λ _. refl) (λ _. refl) (λ _. refl) (λ f. absurd (f refl))
 
 module _ (r : Queue) (b : Bundle) where
   module _ (e : recordOk r ≡ true) where

@@ -8,3 +8,4 @@ pub mod Kept
 pub mod Inverse
 pub mod Unique
 pub mod Reach
+pub mod Strict

@@ -1,7 +1,7 @@
 -- The offer, test by test, from what the code has worked out: the queue, the budget, the start and the two arrivals.
 use Prim.Native.Nat.{ℕ, _+_, _/_, _<_, _≤_}
-use mathlib.Core.Bool.{true}
-use mathlib.Core.Path.{_≡_, refl, ap, _∙_}
+use mathlib.Core.Bool.{true, false}
+use mathlib.Core.Path.{_≡_, refl, sym, ap, _∙_}
 use native.Mathlib.Nat.{div-le-self}
 use native.Mathlib.Omega.{arith}
 use lib.Dec.{leb}
@@ -10,12 +10,21 @@ use Rattle.units.specs.declared.Date.{Date}
 use Rattle.units.specs.declared.Volume.{Volume}
 use Rattle.units.specs.declared.Bundle.{Bundle}
 use Rattle.units.specs.declared.Offer.{Offer}
-use Rattle.units.specs.Limits.{dateMax, bundleOk}
-use Rattle.units.specs.Answer.{refused, offered}
+use Rattle.units.specs.declared.TxData.{TxData}
+use Rattle.units.specs.Logic.{pick}
+use Rattle.units.specs.Limits.{dateMax, volumeMax, bundleOk}
+use Rattle.units.specs.Answer.{refused, offered, offers, bookingOf}
+use Rattle.units.specs.Strict.{forbids}
+use Rattle.units.specs.Granted.{refusalOf}
 use Rattle.units.proofs.Logic.{pick-keeps, unless-keeps, unless-go, unless-stop}
+use Rattle.units.proofs.Booking.{booking-refused, booking-fits, booking-done}
+use Rattle.units.proofs.Loads.{asked-load, load}
 use Rattle.legacy.specs.declared.Queue.{Queue}
-use Rattle.legacy.specs.Record.{queueMax, recordOk}
+use Rattle.legacy.specs.declared.Booked.{Booked}
+use Rattle.legacy.specs.Record.{queueMax, strictOf, recordOk}
 use Rattle.legacy.specs.DryRun.{classOf, queueAt, budgetAt, startAt, answerAt, dryRunOf}
+use Rattle.legacy.specs.Queueing.{refusedQueueing, enqueueAt}
+use Rattle.legacy.specs.Book.{bookOf}
 use Rattle.legacy.proofs.Facts.{sound}
 use Rattle.legacy.specs.Open.{budgetMax}
 
@@ -98,3 +107,40 @@ dry-run-refused r at b =
     (λ _. unless-keeps P (bundleOk at b) _ _ (λ _ _. refl)
     (λ _. unless-keeps P (leb (queue + b .size .0) (budgetAt r (b .priority .0))) _ _ (λ _ _. refl)
     (λ _. unless-keeps P (leb (startAt r (at .0) queue + b .size .0 / r .rate .0) (r .window .end .0)) _ _ (λ _ _. refl) (λ _ f. absurd (f refl)))))
+
+-- A booking on a record that keeps its rules, by its dry run's answer.
+answer-not-two : (r : Queue) (t : ℕ) (b : Bundle) → answerAt r t b .number ≡ 2 → ⊥
+unfolding answerAt
+answer-not-two r t b =
+    let P : Offer → Type 0 = λ (o : Offer). o .number ≡ 2 → ⊥ in
+    let queue = queueAt r (b .priority .0) in
+    unless-keeps P (leb (queue + b .size .0) (budgetAt r (b .priority .0))) _ _ (λ _ e. omega arith)
+    (λ _. unless-keeps P (leb (startAt r t queue + b .size .0 / r .rate .0) (r .window .end .0)) _ _ (λ _ e. omega arith) (λ _ e. omega arith))
+
+module _ (r : Queue) (at : Date) (b : Bundle) (d : TxData) (ok : recordOk r ≡ true) where
+  abbrev done : Booked
+  done = pick (r .flags .«self_update») (enqueueAt r b) (record { number = 0; manager = r })
+
+  abbrev refuse : ℕ → Booked
+  refuse n = refusedQueueing n r
+
+  two : bundleOk at b ≡ false → dryRunOf r at b .number ≡ 2
+  unfolding dryRunOf
+  two e = ap (λ (o : Offer). o .number) (unless-go _ _ _ ok ∙ unless-stop _ _ _ e)
+
+  not-two : bundleOk at b ≡ true → dryRunOf r at b .number ≡ 2 → ⊥
+  not-two e h = answer-not-two r (at .0) b (sym (ap (λ (o : Offer). o .number) (dry-run-is r at b ok e)) ∙ h)
+
+  book-is : bookOf r at b d ≡ bookingOf true (bundleOk at b) (offers (dryRunOf r at b) d) (forbids (strictOf r) (d .send)) refuse done
+  unfolding bookOf
+  book-is = unless-go _ _ _ ok
+
+  pub dry-refused : (refusalOf (strictOf r) (dryRunOf r at b) d ≡ 0 → ⊥) → bookOf r at b d ≡ refusedQueueing (refusalOf (strictOf r) (dryRunOf r at b) d) r
+  dry-refused some = book-is ∙ booking-refused (strictOf r) (dryRunOf r at b) d (bundleOk at b) refuse done two not-two some
+
+  module _ (none : refusalOf (strictOf r) (dryRunOf r at b) d ≡ 0) where
+    pub dry-done : bookOf r at b d ≡ pick (r .flags .«self_update») (enqueueAt r b) (record { number = 0; manager = r })
+    dry-done = book-is ∙ booking-done (strictOf r) (dryRunOf r at b) d (bundleOk at b) refuse done two none
+
+    pub dry-small : b .size .0 ≤ volumeMax
+    dry-small = load b (asked-load at b (booking-fits (strictOf r) (dryRunOf r at b) d (bundleOk at b) refuse done two none)) .size

@@ -18,10 +18,13 @@ use Rattle.units.specs.declared.Offer.{Offer}
 use Rattle.units.specs.Logic.{both, allOf}
 use Rattle.units.specs.Limits.{windowOk, loadOk, bundleOk}
 use Rattle.units.specs.Answer.{interval, sameDates, offers}
+use Rattle.units.specs.Strict.{strictOk, forbids}
 use Rattle.units.proofs.Logic.{no-both, both-fst, unless-go, all-go, all-none}
+use Rattle.legacy.specs.declared.Choices.{Choices}
 use Rattle.legacy.specs.declared.Flags.{Flags}
 use Rattle.legacy.specs.declared.Queue.{Queue}
 use Rattle.legacy.specs.declared.Booked.{Booked}
+use Rattle.legacy.specs.Choices.{ported, choicesOk}
 use Rattle.legacy.specs.Open.{classesMax, budgetMax, rateOk, budgetsOk, openOf}
 use Rattle.legacy.specs.Record.{queueMax, recordOk}
 use Rattle.legacy.specs.DryRun.{classOf, queueAt, answerAt, dryRunOf}
@@ -76,8 +79,8 @@ class-room r at b d o =
 
 -- the records that calls lead to
 pub data Reached : Queue → Type 0 where
-  opened : (w : Interval) (r : Rate) (d : Delay) (n : ℕ) (flags : Flags) (budgets : List Volume) → openOf w r d n flags budgets .number ≡ 0
-      → Reached (openOf w r d n flags budgets .manager)
+  opened : (h : Choices) (w : Interval) (r : Rate) (d : Delay) (n : ℕ) (flags : Flags) (budgets : List Volume) → openOf h w r d n flags budgets .number ≡ 0
+      → Reached (openOf h w r d n flags budgets .manager)
   booked : (r : Queue) (at : Date) (b : Bundle) (d : TxData) → Reached r → Reached (bookOf r at b d .manager)
   enqueued : (r : Queue) (b : Bundle) → Reached r → Reached (enqueueOf r b .manager)
   dequeued : (r : Queue) (b : Bundle) → Reached r → Reached (dequeueOf r b .manager)
@@ -137,8 +140,8 @@ module _ (r : Queue) (b : Bundle) (s : Stepped r) where
   book-steps at d = book-keeps r b Hands at d (λ _ _ _. s) (put-steps at d) s
 
 pub stepped : (r : Queue) → Reached r → Stepped r
-stepped _ (opened w r d n flags budgets e) =
-    rw (opened-is w r d n flags budgets e) (record { size = refl; steps = λ _. zero-steps classesMax })
+stepped _ (opened h w r d n flags budgets e) =
+    rw (opened-is h w r d n flags budgets e) (record { size = refl; steps = λ _. zero-steps classesMax })
 stepped _ (booked r at b d q) = book-steps r b (stepped r q) at d
 stepped _ (enqueued r b q) = enqueue-steps r b (stepped r q)
 stepped _ (dequeued r b q) = dequeue-steps r b (stepped r q)
@@ -164,6 +167,7 @@ never-13 r q at b d =
 abbrev full : Queue
 full =
     record {
+      choices = ported;
       window = interval 0 10;
       rate = record { 0 = 10 };
       delay = record { 0 = 2 };
@@ -177,11 +181,11 @@ abbrev load : Bundle
 load = record { size = record { 0 = 25 }; priority = record { 0 = 1 } }
 
 pub full-ok : recordOk full ≡ true
-unfolding recordOk openOf windowOk rateOk budgetsOk both allOf
+unfolding recordOk choicesOk strictOk openOf windowOk rateOk budgetsOk both allOf
 full-ok = refl
 
 pub full-13 : bookOf full (record { 0 = 0 }) load (dryRunOf full (record { 0 = 0 }) load .dates) ≡ refusedQueueing 13 full
-unfolding bookOf enqueueAt offers sameDates dryRunOf answerAt recordOk bundleOk loadOk openOf windowOk rateOk budgetsOk both allOf
+unfolding bookOf forbids enqueueAt offers sameDates dryRunOf answerAt recordOk choicesOk strictOk bundleOk loadOk openOf windowOk rateOk budgetsOk both allOf
 full-13 = refl
 
 -- so no calls lead to it

@@ -11,6 +11,7 @@ use Rattle.units.specs.declared.Interval.{Interval}
 use Rattle.units.specs.declared.TxData.{TxData}
 use Rattle.units.specs.declared.Bundle.{Bundle}
 use Rattle.units.proofs.Determined.{Determined}
+use Rattle.legacy.specs.declared.Choices.{Choices}
 use Rattle.legacy.specs.declared.Flags.{Flags}
 use Rattle.legacy.specs.declared.Queue.{Queue}
 use Rattle.legacy.proofs.Queue.open.Reads as open-reads
@@ -33,8 +34,8 @@ use Rattle.legacy.proofs.volumes.unused.Reads as unused-reads
 use Rattle.legacy.proofs.volumes.add.Reads as add-reads
 use Rattle.legacy.proofs.volumes.take.Reads as take-reads
 
-pub open-unique : (w : Interval) (rate : Rate) (d : Delay) (n : ℕ) (flags : Flags) (budgets : List Volume) → Determined (open-reads.Post tt (w, (rate, (d, (n, (flags, (budgets, tt)))))))
-open-unique w rate d n flags budgets r q x y f g = f ∙ sym g
+pub open-unique : (h : Choices) (w : Interval) (rate : Rate) (d : Delay) (n : ℕ) (flags : Flags) (budgets : List Volume) → Determined (open-reads.Post tt (h, (w, (rate, (d, (n, (flags, (budgets, tt))))))))
+open-unique h w rate d n flags budgets r q x y f g = f ∙ sym g
 
 pub rate-ok-unique : (w : Interval) (rate : Rate) → Determined (rate-ok-reads.Post tt (w, (rate, tt)))
 rate-ok-unique w rate r q x y f g = f ∙ sym g

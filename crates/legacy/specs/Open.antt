@@ -1,4 +1,4 @@
--- 01, "Numbers" and "Refusal numbers", the queue manager's opening: 3, 6, 5, 14 in this order; all queues begin at zero.
+-- 01, "Numbers" and "Refusal numbers", the queue manager's opening: 3, 6, 5, 14 in this order, and 02's 2 before all else; all queues begin at zero.
 use Prim.Native.Nat.{ℕ, _-_, _*_}
 use mathlib.Core.Bool.{Bool, false}
 use mathlib.Core.List.{List}
@@ -11,9 +11,11 @@ use Rattle.units.specs.declared.Interval.{Interval}
 use Rattle.units.specs.Logic.{both, unless, pick, allOf}
 use Rattle.units.specs.Limits.{rateMax, volumeMax, delayMax, windowOk}
 use Rattle.units.specs.Answer.{interval}
+use Rattle.legacy.specs.declared.Choices.{Choices}
 use Rattle.legacy.specs.declared.Flags.{Flags}
 use Rattle.legacy.specs.declared.Queue.{Queue}
 use Rattle.legacy.specs.declared.Opened.{Opened}
+use Rattle.legacy.specs.Choices.{unchosen, choicesOk}
 
 -- 8 queue classes; a budget is a volume, 0 to 2^38
 abbrev pub classesMax : ℕ
@@ -51,6 +53,7 @@ refusedOpening n =
     record {
       number = n;
       manager = record {
+        choices = unchosen;
         window = interval 0 0;
         rate = record { 0 = 0 };
         delay = record { 0 = 0 };
@@ -62,13 +65,14 @@ refusedOpening n =
     }
 
 -- the opening
-unfoldable pub openOf : Interval → Rate → Delay → ℕ → Flags → List Volume → Opened
-openOf w r d n flags budgets =
-    unless (windowOk w) (refusedOpening 3)
+unfoldable pub openOf : Choices → Interval → Rate → Delay → ℕ → Flags → List Volume → Opened
+openOf h w r d n flags budgets =
+    unless (choicesOk h) (refusedOpening 2)
+    (unless (windowOk w) (refusedOpening 3)
     (unless (rateOk w (r .0)) (refusedOpening 6)
     (unless (leb (d .0) delayMax) (refusedOpening 5)
     (unless (budgetsOk n flags budgets) (refusedOpening 14)
     (record {
       number = 0;
-      manager = record { window = w; rate = r; delay = d; classes = n; flags = flags; queues = zeros; budgets = budgets };
-    }))))
+      manager = record { choices = h; window = w; rate = r; delay = d; classes = n; flags = flags; queues = zeros; budgets = budgets };
+    })))))

@@ -33,7 +33,7 @@ refusedQueueing n r = record { number = n; manager = r }
 -- the record with other queues
 abbrev pub withQueues : Queue → List Volume → Queue
 withQueues r l =
-    record { window = r .window; rate = r .rate; delay = r .delay; classes = r .classes; flags = r .flags; queues = l; budgets = r .budgets }
+    record { choices = r .choices; window = r .window; rate = r .rate; delay = r .delay; classes = r .classes; flags = r .flags; queues = l; budgets = r .budgets }
 
 -- classes 0 to the bundle's own: so many
 abbrev pub reached : Queue → Bundle → ℕ

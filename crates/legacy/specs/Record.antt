@@ -11,9 +11,13 @@ use Rattle.legacy.specs.Open.{classesMax, budgetMax, atMost, isZero, ope
 abbrev pub queueMax : ℕ
 queueMax = classesMax * budgetMax
 
+-- the strict flag that it names
+abbrev pub strictOf : Queue → ℕ
+strictOf r = r .choices .strict .0
+
 -- an opening with the record's own figures is done, and its queues are inside their limits, zero past the class count
 unfoldable pub recordOk : Queue → Bool
 recordOk r =
-    both (eqb (openOf (r .window) (r .rate) (r .delay) (r .classes) (r .flags) (r .budgets) .number) 0)
+    both (eqb (openOf (r .choices) (r .window) (r .rate) (r .delay) (r .classes) (r .flags) (r .budgets) .number) 0)
     (both (allOf (atMost queueMax) (take (r .classes) (r .queues)))
     (allOf isZero (drop (r .classes) (r .queues))))

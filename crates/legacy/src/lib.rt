@@ -6,12 +6,14 @@ use units::Interval;
 use units::Offer;
 use units::Priority;
 use units::Rate;
+use units::Strict;
 use units::TxData;
 use units::Volume;
 ghost use mathlib.Core.Path.{_≡_};
 ghost use mathlib.Core.Bool.{true};
 ghost use Prim.Native.Nat.{_+_, _<_, _≤_};
 ghost use Rattle.units.specs.Limits.{dateMax, volumeMax, windowOk};
+ghost use Rattle.legacy.specs.Choices.{ported, choicesOk};
 ghost use Rattle.legacy.specs.Open.{budgetMax, openOf, refusedOpening, rateOk, budgetsOk};
 ghost use Rattle.legacy.specs.Record.{queueMax, recordOk};
 ghost use Rattle.legacy.specs.DryRun.{dryRunOf, classOf, queueAt, budgetAt, startAt, answerAt};
@@ -20,6 +22,31 @@ ghost use Rattle.legacy.specs.Book.{bookOf};
 ghost use Rattle.legacy.specs.List.{listOf};
 
 pub mod volumes;
+
+// What an opening chooses and the record names: the strict flag.
+#[repr(C)]
+pub struct Choices {
+    pub strict: Strict,
+}
+
+impl Choices {
+    // What the source has.
+    pub fn ported() -> Choices
+        ensures { λ r. ⌜ r ≡ ported ⌝ }
+    {
+        Choices {
+            strict: Strict(Strict::OFF),
+        }
+    }
+
+    // Is each choice one that there is?
+    pub fn ok(self) -> bool
+        ensures { λ r. ⌜ r ≡ choicesOk self ⌝ }
+    {
+        let strict = self.strict;
+        strict.ok()
+    }
+}
 
 #[repr(C)]
 pub struct Flags {
@@ -30,6 +57,7 @@ pub struct Flags {
 
 #[repr(C)]
 pub struct Queue {
+    pub choices: Choices,
     pub window: Interval,
     pub rate: Rate,
     pub delay: Delay,
@@ -76,6 +104,7 @@ impl Queue {
         Opened {
             number: number,
             manager: Queue {
+                choices: Choices { strict: Strict(0) },
                 window: Interval {
                     start: Date(0),
                     end: Date(0),
@@ -126,8 +155,9 @@ impl Queue {
         volumes::unused(budgets, used)
     }
 
-    // LegacyManager::new and try_init: 3, 6, 5, 14 in this order; all queues begin at zero.
+    // LegacyManager::new and try_init: 2 for a choice that there is not, then 3, 6, 5, 14 in this order; all queues begin at zero.
     pub fn open(
+        choices: Choices,
         window: Interval,
         rate: Rate,
         delay: Delay,
@@ -135,8 +165,11 @@ impl Queue {
         flags: Flags,
         budgets: [Volume; Queue::CLASSES_MAX],
     ) -> Opened
-        ensures { λ r. ⌜ r ≡ openOf window rate delay classes flags budgets ⌝ }
+        ensures { λ r. ⌜ r ≡ openOf choices window rate delay classes flags budgets ⌝ }
     {
+        if !choices.ok() {
+            return Queue::refused_opening(units::refusal::CHOICE);
+        }
         if !window.is_window() {
             return Queue::refused_opening(units::refusal::WINDOW);
         }
@@ -153,6 +186,7 @@ impl Queue {
         Opened {
             number: 0,
             manager: Queue {
+                choices: choices,
                 window: window,
                 rate: rate,
                 delay: delay,
@@ -168,6 +202,7 @@ impl Queue {
     pub fn ok(self) -> bool
         ensures { λ r. ⌜ r ≡ recordOk self ⌝ }
     {
+        let choices = self.choices;
         let window = self.window;
         let rate = self.rate;
         let delay = self.delay;
@@ -175,6 +210,9 @@ impl Queue {
         let flags = self.flags;
         let queues = self.queues;
         let budgets = self.budgets;
+        if !choices.ok() {
+            return false;
+        }
         if !window.is_window() {
             return false;
         }
@@ -362,12 +400,10 @@ impl Queue {
         requires { ⌜ recordOk self ≡ true ⌝ }
         ensures { λ r. ⌜ r ≡ bookOf self at bundle dates ⌝ }
     {
-        if !bundle.ok_at(at) {
-            return self.refused_queueing(units::refusal::BUNDLE);
-        }
-        let offer = self.answer(at, bundle);
-        if !offer.is(dates) {
-            return self.refused_queueing(units::refusal::NOT_OFFERED);
+        let offer = self.dry_run_kept(at, bundle);
+        let number = offer.refusal(self.choices.strict, dates);
+        if number != 0 {
+            return self.refused_queueing(number);
         }
         let flags = self.flags;
         let self_update = flags.self_update;
@@ -380,7 +416,7 @@ impl Queue {
         }
     }
 
-    // schedule_tx, with the time that the dry run was asked: 1, 2, 9, then 13; enqueues only under self-update.
+    // schedule_tx, with the time that the dry run was asked: 1, 2, 9, 17, then 13; enqueues only under self-update.
     pub fn book(self, at: Date, bundle: Bundle, dates: TxData) -> Booked
         ensures { λ r. ⌜ r ≡ bookOf self at bundle dates ⌝ }
     {
