@@ -13,8 +13,8 @@ use Rattle.howrekano.proofs.Opening as Opening
 use Rattle.howrekano.proofs.Opening.Laws as Opening′
 use Rattle.howrekano.proofs.polynomial.PolynomialOpening as PolynomialOpening
 use Rattle.howrekano.proofs.polynomial.PolynomialOpening.Laws as PolynomialOpening′
-use Rattle.layout.proofs.queue.QueueOpening as QueueOpening
-use Rattle.layout.proofs.queue.QueueOpening.Laws as QueueOpening′
+use Rattle.howrekano.proofs.queue.QueueOpening as QueueOpening
+use Rattle.howrekano.proofs.queue.QueueOpening.Laws as QueueOpening′
 use Rattle.seg.proofs.FreeVolume as FreeVolume
 use Rattle.seg.proofs.FreeVolume.Laws as FreeVolume′
 use Rattle.seg.proofs.Opened as FreeOpened

@@ -287,7 +287,7 @@ module _ {M : Type 1} (𝓤 : URA M) (H : Heap 𝓤) (A : Atoms 𝓤) (mem : Mem
 
   module _ (m : RefT (Of queue)) where
     module _ (κs : Lfts 1) where
-      pub queue-open-says : (x : RefT (Of queue-opening)) (r : Of queue-opened) (e : AtExit queue-open.ended κs) → queue-open.clauses 𝓤 H A mem run κs (x, tt) .ensures tt r e ≡ fact 𝓤 (Answered (queueOpenOf (x .now .window) (x .now .rate) (x .now .delay) (x .now .classes) (x .now .flags) (x .now .budgets)) r)
+      pub queue-open-says : (x : RefT (Of queue-opening)) (r : Of queue-opened) (e : AtExit queue-open.ended κs) → queue-open.clauses 𝓤 H A mem run κs (x, tt) .ensures tt r e ≡ fact 𝓤 (Answered (queueOpenOf (x .now .choices) (x .now .window) (x .now .rate) (x .now .delay) (x .now .classes) (x .now .flags) (x .now .budgets)) r)
       queue-open-says x r e = refl
 
       pub queue-ok-says : (r : Bool) (e : AtExit queue-ok.ended κs) → queue-ok.clauses 𝓤 H A mem run κs (m, tt) .ensures tt r e ≡ fact 𝓤 (Answered (queueOk (m .now)) r)

@@ -204,13 +204,13 @@ pub extern "C" fn hk_free_book_kept(
     );
     let offer = c.offer;
     let place = c.place;
-    let number = offer.refusal(stated);
+    let named = words::choices_at(choices);
+    let number = offer.refusal(named.strict, stated);
     if number != 0 {
         return number;
     }
     let send = stated.send;
     let size = bundle.size;
-    let named = words::choices_at(choices);
     let edition = named.edition;
     free_words::cut(
         edition,

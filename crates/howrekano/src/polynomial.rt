@@ -206,7 +206,8 @@ pub extern "C" fn hk_polynomial_book_kept(
     );
     let offer = c.offer;
     let place = c.place;
-    let number = offer.refusal(stated);
+    let named = poly_words::choices_at(choices);
+    let number = offer.refusal(named.strict, stated);
     if number != 0 {
         return number;
     }

@@ -147,7 +147,8 @@ pub extern "C" fn hk_priority_book_kept(
         bundle,
         choices,
     );
-    let number = offer.refusal(stated);
+    let named = words::choices_at(choices);
+    let number = offer.refusal(named.strict, stated);
     if number != 0 {
         return number;
     }

@@ -1,10 +1,15 @@
 // The queue manager from C or Rust: its record is lent, and no enum crosses. The calls whose names end in _kept test nothing: whoever holds the record keeps its rules.
-use layout::queue::QueueOpening;
+use legacy::Choices;
+use legacy::Flags;
 use legacy::Queue;
 use units::Bundle;
 use units::Date;
+use units::Delay;
+use units::Interval;
 use units::Offer;
+use units::Rate;
 use units::TxData;
+use units::Volume;
 ghost use mathlib.Core.Path.{_≡_};
 ghost use mathlib.Core.Bool.{true};
 ghost use Rattle.legacy.specs.Open.{openOf};
@@ -14,22 +19,35 @@ ghost use Rattle.legacy.specs.Book.{bookOf};
 ghost use Rattle.legacy.specs.List.{listOf};
 ghost use Rattle.legacy.specs.Queueing.{enqueueOf, dequeueOf};
 
+// An opening's choices and figures.
+#[repr(C)]
+pub struct QueueOpening {
+    pub choices: Choices,
+    pub window: Interval,
+    pub rate: Rate,
+    pub delay: Delay,
+    pub classes: usize,
+    pub flags: Flags,
+    pub budgets: [Volume; Queue::CLASSES_MAX],
+}
+
 // The opening by value, with its figures in one record.
 pub fn opened(x: QueueOpening) -> legacy::Opened
-    ensures { λ r. ⌜ r ≡ openOf (x .window) (x .rate) (x .delay) (x .classes) (x .flags) (x .budgets) ⌝ }
+    ensures { λ r. ⌜ r ≡ openOf (x .choices) (x .window) (x .rate) (x .delay) (x .classes) (x .flags) (x .budgets) ⌝ }
 {
+    let choices = x.choices;
     let window = x.window;
     let rate = x.rate;
     let delay = x.delay;
     let classes = x.classes;
     let flags = x.flags;
     let budgets = x.budgets;
-    Queue::open(window, rate, delay, classes, flags, budgets)
+    Queue::open(choices, window, rate, delay, classes, flags, budgets)
 }
 
 #[no_mangle]
 pub extern "C" fn hk_queue_open(x: &QueueOpening) -> legacy::Opened
-    ensures { λ r. ⌜ r ≡ openOf (now (x .entry) .window) (now (x .entry) .rate) (now (x .entry) .delay) (now (x .entry) .classes) (now (x .entry) .flags) (now (x .entry) .budgets) ⌝ }
+    ensures { λ r. ⌜ r ≡ openOf (now (x .entry) .choices) (now (x .entry) .window) (now (x .entry) .rate) (now (x .entry) .delay) (now (x .entry) .classes) (now (x .entry) .flags) (now (x .entry) .budgets) ⌝ }
 {
     opened(*x)
 }

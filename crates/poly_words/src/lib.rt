@@ -7,6 +7,7 @@ use segmentation::End;
 use segmentation::Rule;
 use units::Date;
 use units::Interval;
+use units::Strict;
 use words::LISTED;
 use words::listed_at;
 ghost use mathlib.Core.Path.{_≡_};
@@ -23,7 +24,7 @@ ghost use Rattle.words.specs.Words.{volumesIn};
 ghost use Rattle.poly_words.specs.Words.{choicesIn};
 
 // The numbers of a record's choices, one to a choice.
-pub const CHOICES: usize = 2;
+pub const CHOICES: usize = 3;
 
 // Lent as a slice, an array tells its length; no code is left of it.
 fn told(words: &[u64]) {}
@@ -35,6 +36,7 @@ pub fn choices_at(choices: &[u64; CHOICES]) -> Choices
     Choices {
         mode: Mode(choices[0]),
         rule: Rule(choices[1]),
+        strict: Strict(choices[2]),
     }
 }
 

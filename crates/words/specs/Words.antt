@@ -31,4 +31,4 @@ delaysIn l = threes delayFrom l
 
 -- the choices that the numbers are
 abbrev pub choicesIn : List ℕ → Choices
-choicesIn l = record { edition = record { 0 = getD l 0 0 }; rule = record { 0 = getD l 1 0 } }
+choicesIn l = record { edition = record { 0 = getD l 0 0 }; rule = record { 0 = getD l 1 0 }; strict = record { 0 = getD l 2 0 } }

@@ -10,6 +10,7 @@ use units::Date;
 use units::Delay;
 use units::Interval;
 use units::Offer;
+use units::Strict;
 use units::Volume;
 ghost use mathlib.Core.Path.{_≡_};
 ghost use Prim.Native.Nat.{_<_, _≤_};
@@ -28,7 +29,7 @@ pub const SEGMENTS: usize = 3 * Interval::SEGMENTS_MAX;
 pub const LISTED: usize = 3 * Interval::LISTED_MAX;
 
 // The numbers of a record's choices, one to a choice.
-pub const CHOICES: usize = 2;
+pub const CHOICES: usize = 3;
 
 // Lent as a slice, an array tells its length; no code is left of it.
 fn told(words: &[u64]) {}
@@ -40,6 +41,7 @@ pub fn choices_at(choices: &[u64; CHOICES]) -> Choices
     Choices {
         edition: Edition(choices[0]),
         rule: Rule(choices[1]),
+        strict: Strict(choices[2]),
     }
 }
 

@@ -1,4 +1,4 @@
--- `howrekano::polynomial::hk_polynomial_book_kept` meets its contract: what is chosen tells the refusal, and where to cut the list that is lent.
+-- `howrekano::polynomial::hk_polynomial_book_kept` meets its contract: what is chosen and the flag tell the refusal, and where to cut the list that is lent.
 use borrow.Author.Needs.{needs}
 use mathlib.Core.Path.{_≡_, refl, sym, ap, _∙_}
 use native.Mathlib.Omega.{arith}
@@ -7,6 +7,7 @@ use Rattle.segmentation.specs.Granted.{Run}
 use Rattle.free_list.specs.declared.FreeList.{FreeList}
 use Rattle.free_list.proofs.CutRoom.{bare-roomy}
 use Rattle.poly_seg.specs.declared.PolySeg.{PolySeg}
+use Rattle.poly_seg.specs.Record.{strictOf}
 use Rattle.poly_seg.specs.Book.{withFree}
 use Rattle.poly_seg.specs.Granted.{chosenOf}
 use Rattle.poly_seg.proofs.Facts.{facts}
@@ -23,7 +24,7 @@ lent c =
 
 -- where the call starts, from where the refusal is told
 abbrev start : tie.After-refusal → tie.Start
-start c = c .before .before .before .before .before .before .before
+start c = c .before .before .before .before .before .before .before .before
 
 chosen-is : (c : tie.After-chosen) →
     let s = c .before .before .before .before .before in
@@ -32,10 +33,10 @@ chosen-is c = rw (c .before .before .polynome-at .ensures) at (c .chosen .ensure
 
 refusal-is : (c : tie.After-refusal) →
     let s = start c in
-    c .refusal .result ≡ refusalOf (chosenOf (lent s) (s .args .at) (s .args .bundle) .offer) (datesIn (s .args .dates .now))
+    c .refusal .result ≡ refusalOf (strictOf (lent s)) (chosenOf (lent s) (s .args .at) (s .args .bundle) .offer) (datesIn (s .args .dates .now))
 refusal-is c =
-    let k = c .before .before in
-    rw (chosen-is k, k .before .before .before .dates-at .ensures) at (c .refusal .ensures)
+    let k = c .before .before .before in
+    rw (c .before .choices-at .ensures, chosen-is k, k .before .before .before .dates-at .ensures) at (c .refusal .ensures)
 
 dates-at-requires : tie.Need-dates-at-requires
 dates-at-requires c κs = search needs
@@ -47,6 +48,9 @@ chosen-requires : tie.Need-chosen-requires
 chosen-requires c κs =
     let p = c .before in
     rw (p .polynome-at .ensures) (p .before .before .before .pre)
+
+choices-at-requires : tie.Need-choices-at-requires
+choices-at-requires c κs = search needs
 
 refusal-requires : tie.Need-refusal-requires
 refusal-requires c κs = search needs
@@ -65,7 +69,7 @@ cut-requires c κs =
       (
         record { from = 0; run = tt },
         (
-          rw (chosen-is (e .before .before)) (chosen-done _ _ _ (start e .pre) _ (sym (refusal-is e) ∙ one .if1 .left) .1),
+          rw (chosen-is (e .before .before .before)) (chosen-done _ _ _ (start e .pre) _ (sym (refusal-is e) ∙ one .if1 .left) .1),
           bare-roomy _ _ _ _ _ _ _ _ (facts _ (start e .pre) .free),
         ),
       ),
@@ -75,7 +79,7 @@ returns-2 : tie.Need-returns-2
 returns-2 c =
     let one = c .before .before .before .before .before in
     let e = one .before in
-    let k = e .before .before in
+    let k = e .before .before .before in
     let s = start e in
     let done = rw (chosen-is k, k .before .before .before .dates-at .ensures) at (c .cut .ensures) in
     rw (chosen-done _ _ _ (s .pre) _ (sym (refusal-is e) ∙ one .if1 .left) .0)
@@ -88,6 +92,7 @@ hk-polynomial-book-kept-spec =
     dates-at-requires
     polynome-at-requires
     chosen-requires
+    choices-at-requires
     refusal-requires
     returns
     cut-requires

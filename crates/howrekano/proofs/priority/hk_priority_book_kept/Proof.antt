@@ -1,7 +1,8 @@
--- `howrekano::priority::hk_priority_book_kept` meets its contract: refused as the dry run's answer tells, else the list that is lent is set.
+-- `howrekano::priority::hk_priority_book_kept` meets its contract: refused as the flag and the dry run's answer tell, else the list that is lent is set.
 use borrow.Author.Needs.{needs}
 use mathlib.Core.Path.{_≡_, refl, sym, ap, _∙_}
 use Rattle.units.specs.Granted.{refusalOf}
+use Rattle.contact.specs.Record.{strictOf}
 use Rattle.bookings.specs.declared.Bookings.{Bookings}
 use Rattle.booking_words.proofs.Covered.{cover-follows}
 use Rattle.pseg.specs.declared.PrioritySeg.{PrioritySeg}
@@ -20,18 +21,18 @@ lent c =
 
 -- where the call starts, from where the refusal is told
 abbrev start : tie.After-refusal → tie.Start
-start c = c .before .before .before .before .before
+start c = c .before .before .before .before .before .before
 
 refusal-is : (c : tie.After-refusal) →
     let s = start c in
-    c .refusal .result ≡ refusalOf (dryRunOf (lent s) (s .args .at) (s .args .bundle)) (datesIn (s .args .dates .now))
+    c .refusal .result ≡ refusalOf (strictOf (lent s .contact)) (dryRunOf (lent s) (s .args .at) (s .args .bundle)) (datesIn (s .args .dates .now))
 refusal-is c =
-    let k = c .before in
-    rw (k .hk-priority-dry-run-kept .ensures, k .before .before .dates-at .ensures) at (c .refusal .ensures)
+    let k = c .before .before in
+    rw (c .before .choices-at .ensures, k .hk-priority-dry-run-kept .ensures, k .before .before .dates-at .ensures) at (c .refusal .ensures)
 
 none-refused : (c : tie.Else1) →
     let s = start (c .before) in
-    refusalOf (dryRunOf (lent s) (s .args .at) (s .args .bundle)) (datesIn (s .args .dates .now)) ≡ 0
+    refusalOf (strictOf (lent s .contact)) (dryRunOf (lent s) (s .args .at) (s .args .bundle)) (datesIn (s .args .dates .now)) ≡ 0
 none-refused c = sym (refusal-is (c .before)) ∙ c .if1 .left
 
 dates-at-requires : tie.Need-dates-at-requires
@@ -39,6 +40,9 @@ dates-at-requires c κs = search needs
 
 hk-priority-dry-run-kept-requires : tie.Need-hk-priority-dry-run-kept-requires
 hk-priority-dry-run-kept-requires c κs = search needs
+
+choices-at-requires : tie.Need-choices-at-requires
+choices-at-requires c κs = search needs
 
 refusal-requires : tie.Need-refusal-requires
 refusal-requires c κs = search needs
@@ -64,7 +68,7 @@ returns-2 c =
     let one = level .before .before .before .before .before in
     let e = one .before in
     let s = start e in
-    let done = rw (level .of .ensures, e .before .before .before .dates-at .ensures) at (c .set .ensures) in
+    let done = rw (level .of .ensures, e .before .before .before .before .dates-at .ensures) at (c .set .ensures) in
     rw (dry-done _ _ _ _ (s .pre) (none-refused one) .0)
     (done .0, ap (λ (l : Bookings). record { contact = lent s .contact; bookings = l }) (done .1))
 
@@ -74,6 +78,7 @@ hk-priority-book-kept-spec =
     (tie.spec
     dates-at-requires
     hk-priority-dry-run-kept-requires
+    choices-at-requires
     refusal-requires
     returns
     of-requires

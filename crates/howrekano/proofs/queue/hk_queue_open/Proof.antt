@@ -13,4 +13,4 @@ use Rattle.howrekano.proofs.Lends.{lends}
 pub hk-queue-open-spec : {M : Type 1} → stated.statement M
 unfolding code.routine
 hk-queue-open-spec 𝓤 H 𝓜 𝓖 𝓡 =
-    lends queue-opening (struct queue-opened) (λ x. openOf (x .window) (x .rate) (x .delay) (x .classes) (x .flags) (x .budgets)) 𝓤 (total 𝓤) H 𝓜 𝓖 𝓡 self.name code.env callee.name (code.unfolded 𝓤 H 𝓜 𝓡) callee.routine code.calls-howrekano·queue·opened (callee-thm.met 𝓤 H 𝓜 𝓖 𝓡)
+    lends queue-opening (struct queue-opened) (λ x. openOf (x .choices) (x .window) (x .rate) (x .delay) (x .classes) (x .flags) (x .budgets)) 𝓤 (total 𝓤) H 𝓜 𝓖 𝓡 self.name code.env callee.name (code.unfolded 𝓤 H 𝓜 𝓡) callee.routine code.calls-howrekano·queue·opened (callee-thm.met 𝓤 H 𝓜 𝓖 𝓡)
