@@ -3,3 +3,4 @@ pub mod Keeping
 pub mod Demand
 pub mod RoomAfter
 pub mod SecondAfter
+pub mod Strict
