@@ -8,9 +8,10 @@ use Rattle.units.specs.declared.Interval.{Interval}
 use Rattle.units.specs.declared.TxData.{TxData}
 use Rattle.units.specs.declared.Bundle.{Bundle}
 use Rattle.units.specs.declared.Offer.{Offer}
-use Rattle.units.specs.Logic.{unless}
 use Rattle.units.specs.Limits.{bundleOk}
-use Rattle.units.specs.Answer.{offers}
+use Rattle.units.specs.Answer.{offers, bookingOf}
+use Rattle.units.specs.Strict.{forbids}
+use Rattle.contact.specs.Record.{strictOf}
 use Rattle.units.proofs.Determined.{Met}
 use Rattle.segmentation.specs.declared.RateSegment.{RateSegment}
 use Rattle.segmentation.specs.declared.DelaySegment.{DelaySegment}
@@ -53,7 +54,7 @@ module _ (r : PrioritySeg) (at : Date) (b : Bundle) (ok : recordOk r ≡ true) (
 
     -- and what it answers and hands back is told by whatever answer is the earliest place
     pub booked-told : bundleOk at b ≡ true → Met (book-reads.Post tt (r, (at, (b, (d, tt))))) a → (o : Offer) → Earliest r at b o → Rest r b o
-        → a ≡ unless (offers o d) (refusedBooking 9 r) (bookedOf r (d .send) (b .priority .0))
+        → a ≡ bookingOf true true (offers o d) (forbids (strictOf (r .contact)) (d .send)) (λ n. refusedBooking n r) (bookedOf r (d .send) (b .priority .0))
     booked-told fits p o h k = p .1 ∙ book-told r at b d ok none fits o h k
 
 -- no call answers 8, on any record, damaged ones too, and for any bundle

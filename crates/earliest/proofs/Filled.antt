@@ -1,36 +1,25 @@
--- Where no empty segment can arise, so that R-8's condition need not be asked: an opening lists none, and under edition 2 a booking adds none,
--- since its send has a length.
+-- Where no empty segment arises: an opening lists none, and setting a send that has a length adds none.
 use Prim.Native.Nat.{ℕ, _<_}
 use mathlib.Core.Bool.{true}
 use mathlib.Core.Path.{_≡_, refl}
 use mathlib.Core.List.{List, [], _∷_, _++_}
-use mathlib.Core.Logic.{⊎-elim}
 use lib.ListN.{length}
 use borrow.Author.Tests.{lt-ltb}
 use Rattle.units.specs.Limits.{segmentsMax}
 use Rattle.units.specs.Logic.{allOf}
-use Rattle.units.specs.declared.Date.{Date}
 use Rattle.units.specs.declared.Interval.{Interval}
-use Rattle.units.specs.declared.TxData.{TxData}
-use Rattle.units.specs.declared.Bundle.{Bundle}
 use Rattle.units.proofs.Logic.{both-yes, both-fst, both-snd}
 use Rattle.segmentation.specs.declared.RateSegment.{RateSegment}
 use Rattle.segmentation.specs.declared.DelaySegment.{DelaySegment}
 use Rattle.contact.specs.declared.Choices.{Choices}
 use Rattle.contact.specs.Open.{contactOf}
-use Rattle.contact.specs.Record.{editionOf}
 use Rattle.contact.proofs.Sound.{sound}
 use Rattle.bookings.specs.declared.BookingSegment.{BookingSegment}
-use Rattle.bookings.specs.Listed.{listed}
 use Rattle.bookings.specs.Cut.{partsOf, setOf}
 use Rattle.bookings.proofs.Forms.{Form, early, late, whole, left, right, inside, form}
-use Rattle.pseg.specs.declared.PrioritySeg.{PrioritySeg}
-use Rattle.pseg.specs.Record.{recordOk}
 use Rattle.pseg.specs.Open.{wholeWindow, openOf}
-use Rattle.pseg.specs.Book.{bookOf}
-use Rattle.pseg.proofs.Facts.{facts, listed-in}
-use Rattle.pseg.proofs.Kept.{opened-manager, opened-contact, Refused, Accepted, setListed, book-cases}
-use Rattle.pseg.proofs.Second.{found-after}
+use Rattle.pseg.proofs.Facts.{listed-in}
+use Rattle.pseg.proofs.Kept.{opened-manager, opened-contact}
 use Rattle.earliest.specs.Earliest.{filled, NoEmpty}
 
 -- a send that has a length leaves no empty part of a segment that has one
@@ -56,12 +45,3 @@ opened-filled h w rates m delays k rate-size delay-size zero =
     let c = contactOf h w rates m delays k in
     let some = sound c (opened-contact h w rates m delays k zero rate-size delay-size) .some in
     rw (opened-manager h w rates m delays k zero .1, listed-in (wholeWindow w ∷ [])) (both-yes _ _ (lt-ltb _ _ some) refl)
-
-pub booked-filled : (r : PrioritySeg) (at : Date) (b : Bundle) (d : TxData) → recordOk r ≡ true → editionOf (r .contact) ≡ 2 → NoEmpty r → NoEmpty (bookOf r at b d .manager)
-booked-filled r at b d ok two none =
-    ⊎-elim
-    (λ (x : Refused r (bookOf r at b d)). rw (x .same) none)
-    (λ (x : Accepted r at b d (bookOf r at b d)).
-    let after = found-after r (facts r ok) two (at .0) b (x .some) (d .send) (x .found) in
-    rw (x .manager, listed-in (setListed r b d)) (set-filled _ _ _ after (listed (r .bookings)) none))
-    (book-cases r at b d ok)

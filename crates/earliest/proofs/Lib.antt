@@ -10,3 +10,4 @@ pub mod Again
 pub mod Lent
 pub mod Needed
 pub mod Filled
+pub mod Strict

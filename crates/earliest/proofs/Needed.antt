@@ -14,6 +14,7 @@ use Rattle.units.specs.declared.Offer.{Offer}
 use Rattle.units.specs.Limits.{segmentsMax, oneOrTwo, windowOk, loadOk, bundleOk}
 use Rattle.units.specs.Logic.{both, allOf}
 use Rattle.units.specs.Answer.{interval, refused, offered, sameDates, offers}
+use Rattle.units.specs.Strict.{strictOk, forbids}
 use Rattle.units.specs.Arrays.{padded}
 use Rattle.segmentation.specs.declared.RateSegment.{RateSegment}
 use Rattle.segmentation.specs.declared.DelaySegment.{DelaySegment}
@@ -93,7 +94,7 @@ abbrev Figures : Type 0
 Figures = (endFrom hiding (bundle 4 0) 0 ≡ At (date 2)) × (valueAt hiding 0 ≡ negsuc 0) × (valueAt hiding 1 ≡ negsuc 0) × (valueAt offering 1 ≡ pos 1)
 
 pub computed : Reached × Answers × Figures
-unfolding both allOf oneOrTwo windowOk loadOk bundleOk sameDates offers padded rateAt capOf tickOf closeOf endOf belongs fromDate delaysOf spans covers delaysOk noVolume noDelay totalOf volumeOk choicesOk openContact contactOk follows coverOk levelAt noBooking reachOf beginOf brokenOf freeOf turnOf searchOf partsOf setOf setBookings bookingsOk recordOk openOf dryRunOf bookOf
+unfolding both allOf oneOrTwo strictOk forbids windowOk loadOk bundleOk sameDates offers padded rateAt capOf tickOf closeOf endOf belongs fromDate delaysOf spans covers delaysOk noVolume noDelay totalOf volumeOk choicesOk openContact contactOk follows coverOk levelAt noBooking reachOf beginOf brokenOf freeOf turnOf searchOf partsOf setOf setBookings bookingsOk recordOk openOf dryRunOf bookOf
 computed = ((refl, refl, refl, refl), ((refl, refl), refl, (refl, refl), refl), (refl, refl, refl, refl))
 
 answers : Answers
