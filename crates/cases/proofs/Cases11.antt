@@ -3,6 +3,7 @@ use mathlib.Core.Path.{refl}
 use Rattle.units.specs.Logic.{both, allOf}
 use Rattle.units.specs.Limits.{oneOrTwo, windowOk, loadOk, bundleOk}
 use Rattle.units.specs.Answer.{sameDates, offers}
+use Rattle.units.specs.Strict.{strictOk, forbids}
 use Rattle.units.specs.Arrays.{padded}
 use Rattle.segmentation.specs.Capacity.{rateAt, capOf}
 use Rattle.segmentation.specs.End.{reachOf as tickOf, closeOf, endOf}
@@ -37,6 +38,7 @@ use Rattle.poly_seg.specs.Record.{recordOk as polynomialRecordOk}
 use Rattle.poly_seg.specs.DryRun.{offerOf as offerPolynomial, dryRunOf as dryRunPolynomial}
 use Rattle.poly_seg.specs.Book.{bookOf as bookPolynomial}
 use Rattle.poly_seg.specs.List.{listOf as listPolynomial}
+use Rattle.legacy.specs.Choices.{choicesOk as queueChoicesOk}
 use Rattle.legacy.specs.Open.{rateOk, budgetsOk, openOf as openQueue}
 use Rattle.legacy.specs.Record.{recordOk as queueRecordOk}
 use Rattle.legacy.specs.DryRun.{answerAt, dryRunOf as dryRunQueue}
@@ -49,5 +51,5 @@ use Rattle.cases.specs.Table.{table}
 use Rattle.cases.specs.Claim.{openingOf, listAs, answerOf, nextOf, answersOf, saidOf, Holds}
 
 pub cases : Holds table
-unfolding roomOf both allOf oneOrTwo windowOk loadOk bundleOk sameDates offers padded rateAt capOf tickOf closeOf endOf belongs fromDate delaysOf spans covers delaysOk noVolume noDelay totalOf volumeOk choicesOk openContact contactOk segmentOk listOk furtherOf offerOf leftOf cutOf cutList freeOk freeRecordOk openFree dryRunFree bookFree listFree follows coverOk noBooking reachOf beginOf brokenOf freeOf turnOf searchOf partsOf setOf setBookings bookingsOk priorityRecordOk openPriority dryRunPriority bookPriority listPriority integral12 stepOf hornerOf capacityTo termOf magOf rangeOk coefficientsOk polyOk wantedOf areaFrom halveOf findEnd polynomialChoicesOk delayOk polynomialDelaysOk delaysBy openPolynomial polynomialRecordOk offerPolynomial dryRunPolynomial bookPolynomial listPolynomial rateOk budgetsOk openQueue queueRecordOk answerAt dryRunQueue addTo enqueueAt bookQueue listQueue keptFree keptPriority keptPolynomial keptQueue dryRunAs bookAs openingOf listAs answerOf nextOf answersOf saidOf Holds
-cases = (refl, refl, (refl, refl, (refl, refl, (refl, refl, (refl, refl, (refl, refl, (refl, refl, (refl, refl, (refl, refl, (refl, refl, (refl, refl, (refl, refl, (refl, refl, (refl, refl, (refl, refl, (refl, refl, (refl, refl, (refl, refl, (refl, refl, (refl, refl, (refl, refl, (refl, refl, (refl, refl, tt)))))))))))))))))))))))
+unfolding roomOf both allOf oneOrTwo strictOk forbids windowOk loadOk bundleOk sameDates offers padded rateAt capOf tickOf closeOf endOf belongs fromDate delaysOf spans covers delaysOk noVolume noDelay totalOf volumeOk choicesOk openContact contactOk segmentOk listOk furtherOf offerOf leftOf cutOf cutList freeOk freeRecordOk openFree dryRunFree bookFree listFree follows coverOk noBooking reachOf beginOf brokenOf freeOf turnOf searchOf partsOf setOf setBookings bookingsOk priorityRecordOk openPriority dryRunPriority bookPriority listPriority integral12 stepOf hornerOf capacityTo termOf magOf rangeOk coefficientsOk polyOk wantedOf areaFrom halveOf findEnd polynomialChoicesOk queueChoicesOk delayOk polynomialDelaysOk delaysBy openPolynomial polynomialRecordOk offerPolynomial dryRunPolynomial bookPolynomial listPolynomial rateOk budgetsOk openQueue queueRecordOk answerAt dryRunQueue addTo enqueueAt bookQueue listQueue keptFree keptPriority keptPolynomial keptQueue dryRunAs bookAs openingOf listAs answerOf nextOf answersOf saidOf Holds
+cases = (refl, refl, (refl, refl, (refl, refl, (refl, refl, (refl, refl, (refl, refl, (refl, refl, (refl, refl, (refl, refl, (refl, refl, (refl, refl, (refl, refl, (refl, refl, (refl, refl, (refl, refl, (refl, refl, (refl, refl, (refl, refl, (refl, refl, (refl, refl, (refl, refl, (refl, refl, (refl, refl, (refl, refl, (refl, refl, (refl, refl, (refl, refl, tt)))))))))))))))))))))))))))

@@ -58,8 +58,8 @@ openingOf (priority h w r d) =
 openingOf (polynomial h w c z d) =
     let o : PolynomialOpened = openPolynomial h w (record { coefficients = c; offset = record { 0 = z } }) (delayArray d) (length d) in
     keptPolynomial nothing (o .number) (o .manager)
-openingOf (queue w r d n f b) =
-    let o : QueueOpened = openQueue w (record { 0 = r }) (record { 0 = d }) n f (padded classesMax (record { 0 = 0 }) b) in
+openingOf (queue h w r d n f b) =
+    let o : QueueOpened = openQueue h w (record { 0 = r }) (record { 0 = d }) n f (padded classesMax (record { 0 = 0 }) b) in
     keptQueue nothing (o .number) (o .manager)
 
 abbrev pub volumeRow : VolumeSegment → Row

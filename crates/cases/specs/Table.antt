@@ -1,5 +1,5 @@
 -- 01, "Proved cases": the eleven cases, in 01's words above each row. Every row opens fresh, with A's figures where no others are given.
--- Below them cases that 02 asks again: R-5, under edition 2; R-6, in mode 2; R-4, under both rules.
+-- Below them cases that 02 asks again: R-5, under edition 2; R-6, in mode 2; R-4, under both rules; R-7, with the flag on.
 use mathlib.Core.Bool.{true, false}
 use mathlib.Core.List.{List, [], _∷_}
 use lib.IntN.{pos}
@@ -9,8 +9,9 @@ use Rattle.segmentation.specs.declared.RateSegment.{RateSegment}
 use Rattle.segmentation.specs.declared.DelaySegment.{DelaySegment}
 use Rattle.contact.specs.Choices.{ported}
 use Rattle.poly_seg.specs.Choices.{ported as portedPolynomial}
+use Rattle.legacy.specs.Choices.{ported as portedQueue}
 use Rattle.cases.specs.Words.{Case, free, priority, polynomial, queue, dryRun, book, list, done, _⇒_}
-use Rattle.cases.specs.Words.{case, edition, mode, rule, polynomialRule, rate, delay, flags, dates, sends, refusal, lists, queued, row, unbooked}
+use Rattle.cases.specs.Words.{case, edition, mode, rule, polynomialRule, strict, polynomialStrict, queueStrict, rate, delay, flags, dates, sends, refusal, lists, queued, row, unbooked}
 
 -- contact A: [0,10), rate 10, delay 3
 abbrev pub A : Interval
@@ -101,7 +102,7 @@ table =
     ∷ [])
     -- 11. Queue, 3 classes, rate 10, delay 2, [0,10), unbudgeted, both flags: size 25, priority 1, at 0: send 0,2, receive 2,4; booked
     -- 25,25,0. Then size 25, priority 0, at 0: send 2,4.
-    ∷ case 11 (queue (interval 0 10) 10 2 3 (flags true true false) [])
+    ∷ case 11 (queue portedQueue (interval 0 10) 10 2 3 (flags true true false) [])
     (dryRun 0 25 1 ⇒ sends 0 2 2 4
     ∷ book 0 25 1 (dates 0 2 2 4) ⇒ done 0
     ∷ list ⇒ queued (25 ∷ 25 ∷ 0 ∷ [])
@@ -168,5 +169,36 @@ table =
     (dryRun 4 10 0 ⇒ sends 4 5 6 7
     ∷ dryRun 3 10 0 ⇒ sends 3 4 13 6
     ∷ dryRun 4 60 0 ⇒ sends 4 10 6 12
+    ∷ [])
+    -- 02, R-7, the flag on. Case 3: at 5, size 9: send 5,5 is shown, booking it is 17, other dates without length are 9, and the list stays; size 10: send 5,6.
+    ∷ case 3 (free (strict 1) A A-rates A-delays)
+    (dryRun 5 9 0 ⇒ sends 5 5 8 8
+    ∷ book 5 9 0 (dates 5 5 8 8) ⇒ done 17
+    ∷ book 5 9 0 (dates 6 6 9 9) ⇒ done 9
+    ∷ list ⇒ lists (row 0 10 100 ∷ [])
+    ∷ dryRun 5 10 0 ⇒ sends 5 6 8 9
+    ∷ book 5 10 0 (dates 5 6 8 9) ⇒ done 0
+    ∷ list ⇒ lists (row 0 5 50 ∷ row 6 10 40 ∷ [])
+    ∷ [])
+    -- Case 9: priority 0, at 5, size 9: 17, and no segment is empty; so priority 0, at 0, size 100: send 0,10.
+    ∷ case 9 (priority (strict 1) A A-rates A-delays)
+    (dryRun 5 9 0 ⇒ sends 5 5 8 8
+    ∷ book 5 9 0 (dates 5 5 8 8) ⇒ done 17
+    ∷ list ⇒ lists (unbooked 0 10 ∷ [])
+    ∷ dryRun 0 100 0 ⇒ sends 0 10 3 13
+    ∷ [])
+    -- Case 10's first line is the same.
+    ∷ case 10 (polynomial (polynomialStrict 1) (interval 0 10) (pos 10 ∷ pos 0 ∷ pos 0 ∷ pos 0 ∷ []) 0 A-delays)
+    (dryRun 3 16 0 ⇒ sends 3 5 6 8
+    ∷ book 3 16 0 (dates 3 5 6 8) ⇒ done 0
+    ∷ list ⇒ lists (row 0 3 0 ∷ row 5 10 0 ∷ [])
+    ∷ [])
+    -- Case 11: size 9, priority 1, at 0: send 0,0, receive 2,2, is 17 and queues nothing; size 20: 20,20,0.
+    ∷ case 11 (queue (queueStrict 1) (interval 0 10) 10 2 3 (flags true true false) [])
+    (dryRun 0 9 1 ⇒ sends 0 0 2 2
+    ∷ book 0 9 1 (dates 0 0 2 2) ⇒ done 17
+    ∷ list ⇒ queued (0 ∷ 0 ∷ 0 ∷ [])
+    ∷ book 0 20 1 (dates 0 2 2 4) ⇒ done 0
+    ∷ list ⇒ queued (20 ∷ 20 ∷ 0 ∷ [])
     ∷ [])
     ∷ []

@@ -12,6 +12,7 @@ use Rattle.segmentation.specs.declared.RateSegment.{RateSegment}
 use Rattle.segmentation.specs.declared.DelaySegment.{DelaySegment}
 use Rattle.contact.specs.declared.Choices.{Choices}
 use Rattle.poly_seg.specs.declared.Choices.{Choices as PolynomialChoices}
+use Rattle.legacy.specs.declared.Choices.{Choices as QueueChoices}
 use Rattle.legacy.specs.declared.Flags.{Flags}
 
 -- whose record, and the choices and figures that it is opened with
@@ -19,7 +20,7 @@ pub data Opening : Type 0 where
   free : (choices : Choices) (window : Interval) (rates : List RateSegment) (delays : List DelaySegment) → Opening
   priority : (choices : Choices) (window : Interval) (rates : List RateSegment) (delays : List DelaySegment) → Opening
   polynomial : (choices : PolynomialChoices) (window : Interval) (coefficients : List ℤ) (offset : ℕ) (delays : List DelaySegment) → Opening
-  queue : (window : Interval) (rate delay classes : ℕ) (flags : Flags) (budgets : List Volume) → Opening
+  queue : (choices : QueueChoices) (window : Interval) (rate delay classes : ℕ) (flags : Flags) (budgets : List Volume) → Opening
 
 -- where 01 names no priority the manager does not go by it: 0 stands there
 pub data Call : Type 0 where
@@ -56,18 +57,28 @@ case n o l = record { number = n; opening = o; steps = l }
 
 -- 02, R-5: the edition of the end rule
 abbrev pub edition : ℕ → Choices
-edition n = record { edition = record { 0 = n }; rule = record { 0 = 1 } }
+edition n = record { edition = record { 0 = n }; rule = record { 0 = 1 }; strict = record { 0 = 0 } }
 
 -- 02, R-4: the rule of the delays
 abbrev pub rule : ℕ → Choices
-rule n = record { edition = record { 0 = 1 }; rule = record { 0 = n } }
+rule n = record { edition = record { 0 = 1 }; rule = record { 0 = n }; strict = record { 0 = 0 } }
 
 abbrev pub polynomialRule : ℕ → PolynomialChoices
-polynomialRule n = record { mode = record { 0 = 1 }; rule = record { 0 = n } }
+polynomialRule n = record { mode = record { 0 = 1 }; rule = record { 0 = n }; strict = record { 0 = 0 } }
 
 -- 02, R-6: the mode in which capacity is counted
 abbrev pub mode : ℕ → PolynomialChoices
-mode n = record { mode = record { 0 = n }; rule = record { 0 = 1 } }
+mode n = record { mode = record { 0 = n }; rule = record { 0 = 1 }; strict = record { 0 = 0 } }
+
+-- 02, R-7: the strict flag
+abbrev pub strict : ℕ → Choices
+strict n = record { edition = record { 0 = 1 }; rule = record { 0 = 1 }; strict = record { 0 = n } }
+
+abbrev pub polynomialStrict : ℕ → PolynomialChoices
+polynomialStrict n = record { mode = record { 0 = 1 }; rule = record { 0 = 1 }; strict = record { 0 = n } }
+
+abbrev pub queueStrict : ℕ → QueueChoices
+queueStrict n = record { strict = record { 0 = n } }
 
 abbrev pub rate : ℕ → ℕ → ℕ → RateSegment
 rate a b v = record { start = record { 0 = a }; end = record { 0 = b }; rate = record { 0 = v } }

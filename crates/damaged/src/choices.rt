@@ -3,8 +3,9 @@ use contact::Choices;
 use contact::Contact;
 use segmentation::Edition;
 use segmentation::Rule;
+use units::Strict;
 
-pub fn named(c: Contact, edition: u64, rule: u64) -> Contact {
+pub fn named(c: Contact, edition: u64, rule: u64, strict: u64) -> Contact {
     let window = c.window;
     let rates = c.rates;
     let delays = c.delays;
@@ -12,6 +13,7 @@ pub fn named(c: Contact, edition: u64, rule: u64) -> Contact {
         choices: Choices {
             edition: Edition(edition),
             rule: Rule(rule),
+            strict: Strict(strict),
         },
         window: window,
         rates: rates,

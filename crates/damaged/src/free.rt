@@ -16,6 +16,7 @@ use units::Delay;
 use units::Interval;
 use units::Priority;
 use units::Rate;
+use units::Strict;
 use units::TxData;
 use units::Volume;
 
@@ -43,6 +44,30 @@ fn report(label: u8, r: FreeVolume) {
     out::line(102, label, good, o.number, b.number, l.number);
     let left = r.room();
     out::figure(114, label, left.number, left.room.0);
+}
+
+// At 5, size 9: the offer is send 5,5, receive 8,8.
+fn briefly(label: u8, r: FreeVolume) {
+    let at = Date(5);
+    let bundle = Bundle {
+        size: Volume(9),
+        priority: Priority(0),
+    };
+    let dates = TxData {
+        send: Interval {
+            start: Date(5),
+            end: Date(5),
+        },
+        recv: Interval {
+            start: Date(8),
+            end: Date(8),
+        },
+    };
+    let good = r.ok();
+    let o = r.dry_run(at, bundle);
+    let b = r.book(at, bundle, dates);
+    let l = r.list();
+    out::line(115, label, good, o.number, b.number, l.number);
 }
 
 fn fresh() -> FreeVolume {
@@ -208,8 +233,8 @@ fn delayed(r: FreeVolume, g: DelaySegment, h: DelaySegment, count: usize) -> Fre
 }
 
 // The record with other choices.
-fn named(r: FreeVolume, edition: u64, rule: u64) -> FreeVolume {
-    let contact = choices::named(r.contact, edition, rule);
+fn named(r: FreeVolume, edition: u64, rule: u64, strict: u64) -> FreeVolume {
+    let contact = choices::named(r.contact, edition, rule, strict);
     let free = r.free;
     let room = r.room;
     FreeVolume {
@@ -280,17 +305,35 @@ fn contacts(r: FreeVolume) {
     // valid: two delay segments
     report(102, delayed(r, delay(0, 5, 3), delay(5, 10, 3), 2));
     // valid: edition 2, in which the send is 3,5, so that the booking stated is not offered
-    report(103, named(r, Edition::SECOND, Rule::FIRST));
+    report(103, named(r, Edition::SECOND, Rule::FIRST, Strict::OFF));
     // editions: none, one too many, the largest
-    report(56, named(r, 0, Rule::FIRST));
-    report(57, named(r, over::EDITION, Rule::FIRST));
-    report(35, named(r, 18_446_744_073_709_551_615, Rule::FIRST));
+    report(56, named(r, 0, Rule::FIRST, Strict::OFF));
+    report(57, named(r, over::EDITION, Rule::FIRST, Strict::OFF));
+    report(
+        35,
+        named(r, 18_446_744_073_709_551_615, Rule::FIRST, Strict::OFF),
+    );
     // valid: rule 2, which has the same delay of these dates; rules: none, one too many, 255, the largest
-    report(104, named(r, Edition::FIRST, Rule::SECOND));
-    report(36, named(r, Edition::FIRST, 0));
-    report(37, named(r, Edition::FIRST, over::RULE));
-    report(38, named(r, Edition::FIRST, 255));
-    report(39, named(r, Edition::FIRST, 18_446_744_073_709_551_615));
+    report(104, named(r, Edition::FIRST, Rule::SECOND, Strict::OFF));
+    report(36, named(r, Edition::FIRST, 0, Strict::OFF));
+    report(37, named(r, Edition::FIRST, over::RULE, Strict::OFF));
+    report(38, named(r, Edition::FIRST, 255, Strict::OFF));
+    report(
+        39,
+        named(r, Edition::FIRST, 18_446_744_073_709_551_615, Strict::OFF),
+    );
+    // valid: strict, which answers the same of a send that lasts; flags: one too many, 255, the largest
+    let strict = named(r, Edition::FIRST, Rule::FIRST, Strict::ON);
+    report(105, strict);
+    report(40, named(r, Edition::FIRST, Rule::FIRST, over::STRICT));
+    report(41, named(r, Edition::FIRST, Rule::FIRST, 255));
+    report(
+        42,
+        named(r, Edition::FIRST, Rule::FIRST, 18_446_744_073_709_551_615),
+    );
+    // a send of zero length is booked with the flag off, 17 with it on
+    briefly(97, r);
+    briefly(105, strict);
 }
 
 pub fn run() {

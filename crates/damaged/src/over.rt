@@ -9,6 +9,7 @@ use units::Date;
 use units::Delay;
 use units::Interval;
 use units::Rate;
+use units::Strict;
 use units::Volume;
 
 pub const DATE: u64 = Date::MAX + 1;
@@ -36,6 +37,8 @@ pub const EDITION: u64 = Edition::SECOND + 1;
 pub const RULE: u64 = Rule::SECOND + 1;
 
 pub const MODE: u64 = Mode::EXACT + 1;
+
+pub const STRICT: u64 = Strict::ON + 1;
 
 // The least rate and volume by which ten ticks carry more than a contact may.
 pub const RATE_OF_TEN: u64 = Volume::MAX / 10 + 1;

@@ -15,6 +15,7 @@ use units::Date;
 use units::Delay;
 use units::Interval;
 use units::Priority;
+use units::Strict;
 use units::TxData;
 use units::Volume;
 
@@ -137,10 +138,11 @@ fn delays(r: PolySeg, s: DelaySegment, t: DelaySegment, count: usize) -> PolySeg
 }
 
 // The record with other choices.
-fn named(r: PolySeg, mode: u64, rule: u64) -> PolySeg {
+fn named(r: PolySeg, mode: u64, rule: u64, strict: u64) -> PolySeg {
     let made = Choices {
         mode: Mode(mode),
         rule: Rule(rule),
+        strict: Strict(strict),
     };
     let mut other = r;
     other.choices = made;
@@ -202,7 +204,7 @@ fn broken_rules(r: PolySeg) {
 }
 
 fn modes(r: PolySeg) {
-    let exact = named(r, Mode::EXACT, Rule::FIRST);
+    let exact = named(r, Mode::EXACT, Rule::FIRST, Strict::OFF);
     // valid: mode 2, which offers the same of this polynomial; the highest first and last coefficient of its range rule
     report(108, exact);
     report(109, polynome(exact, over::EXACT_WITHIN_TEN, 0));
@@ -212,14 +214,17 @@ fn modes(r: PolySeg) {
     report(50, cubic(exact, over::EXACT_LAST_OF_TEN));
     report(51, polynome(exact, over::FIRST_WITHIN_TEN, 0));
     // modes: none, one too many, 255, the largest
-    report(52, named(r, 0, Rule::FIRST));
-    report(53, named(r, over::MODE, Rule::FIRST));
-    report(54, named(r, 255, Rule::FIRST));
-    report(55, named(r, 18_446_744_073_709_551_615, Rule::FIRST));
+    report(52, named(r, 0, Rule::FIRST, Strict::OFF));
+    report(53, named(r, over::MODE, Rule::FIRST, Strict::OFF));
+    report(54, named(r, 255, Rule::FIRST, Strict::OFF));
+    report(
+        55,
+        named(r, 18_446_744_073_709_551_615, Rule::FIRST, Strict::OFF),
+    );
 }
 
 fn rules(r: PolySeg) {
-    let second = named(r, Mode::PORTED, Rule::SECOND);
+    let second = named(r, Mode::PORTED, Rule::SECOND, Strict::OFF);
     let none = delay(0, 0, 0);
     // valid: rule 2, with one delay segment and with two that cover the window
     report(111, second);
@@ -233,10 +238,21 @@ fn rules(r: PolySeg) {
     report(45, delays(second, delay(0, 11, 3), none, 1));
     report(46, delays(second, delay(0, 0, 3), delay(0, 10, 3), 2));
     // rules: none, one too many, 255, the largest
-    report(36, named(r, Mode::PORTED, 0));
-    report(37, named(r, Mode::PORTED, over::RULE));
-    report(38, named(r, Mode::PORTED, 255));
-    report(39, named(r, Mode::PORTED, 18_446_744_073_709_551_615));
+    report(36, named(r, Mode::PORTED, 0, Strict::OFF));
+    report(37, named(r, Mode::PORTED, over::RULE, Strict::OFF));
+    report(38, named(r, Mode::PORTED, 255, Strict::OFF));
+    report(
+        39,
+        named(r, Mode::PORTED, 18_446_744_073_709_551_615, Strict::OFF),
+    );
+    // valid: strict, of which no offer has zero length; flags: one too many, 255, the largest
+    report(113, named(r, Mode::PORTED, Rule::FIRST, Strict::ON));
+    report(60, named(r, Mode::PORTED, Rule::FIRST, over::STRICT));
+    report(61, named(r, Mode::PORTED, Rule::FIRST, 255));
+    report(
+        62,
+        named(r, Mode::PORTED, Rule::FIRST, 18_446_744_073_709_551_615),
+    );
 }
 
 pub fn run() {

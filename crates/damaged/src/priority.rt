@@ -16,6 +16,7 @@ use units::Delay;
 use units::Interval;
 use units::Priority;
 use units::Rate;
+use units::Strict;
 use units::TxData;
 use units::Volume;
 
@@ -41,6 +42,30 @@ fn report(label: u8, r: PrioritySeg) {
     let b = r.book(at, bundle, dates);
     let l = r.list();
     out::line(112, label, good, o.number, b.number, l.number);
+}
+
+// At 5, size 9: the offer is send 5,5, receive 8,8.
+fn briefly(label: u8, r: PrioritySeg) {
+    let at = Date(5);
+    let bundle = Bundle {
+        size: Volume(9),
+        priority: Priority(5),
+    };
+    let dates = TxData {
+        send: Interval {
+            start: Date(5),
+            end: Date(5),
+        },
+        recv: Interval {
+            start: Date(8),
+            end: Date(8),
+        },
+    };
+    let good = r.ok();
+    let o = r.dry_run(at, bundle);
+    let b = r.book(at, bundle, dates);
+    let l = r.list();
+    out::line(116, label, good, o.number, b.number, l.number);
 }
 
 fn fresh() -> PrioritySeg {
@@ -99,8 +124,8 @@ fn listing(r: PrioritySeg, g: BookingSegment, h: BookingSegment, count: usize) -
 }
 
 // The record with other choices.
-fn named(r: PrioritySeg, edition: u64, rule: u64) -> PrioritySeg {
-    let contact = choices::named(r.contact, edition, rule);
+fn named(r: PrioritySeg, edition: u64, rule: u64, strict: u64) -> PrioritySeg {
+    let contact = choices::named(r.contact, edition, rule, strict);
     let bookings = r.bookings;
     PrioritySeg {
         contact: contact,
@@ -136,14 +161,32 @@ pub fn run() {
     report(76, listing(r, whole, segment(0, 1, 0), 1));
     report(77, listing(r, whole, segment(0, 0, 1), 1));
     // valid: edition 2, in which the send is 3,5, so that the booking stated is not offered; editions: none, one too many, the largest
-    report(103, named(r, Edition::SECOND, Rule::FIRST));
-    report(78, named(r, 0, Rule::FIRST));
-    report(79, named(r, over::EDITION, Rule::FIRST));
-    report(80, named(r, 18_446_744_073_709_551_615, Rule::FIRST));
+    report(103, named(r, Edition::SECOND, Rule::FIRST, Strict::OFF));
+    report(78, named(r, 0, Rule::FIRST, Strict::OFF));
+    report(79, named(r, over::EDITION, Rule::FIRST, Strict::OFF));
+    report(
+        80,
+        named(r, 18_446_744_073_709_551_615, Rule::FIRST, Strict::OFF),
+    );
     // valid: rule 2, which has the same delay of these dates; rules: none, one too many, 255, the largest
-    report(104, named(r, Edition::FIRST, Rule::SECOND));
-    report(81, named(r, Edition::FIRST, 0));
-    report(82, named(r, Edition::FIRST, over::RULE));
-    report(83, named(r, Edition::FIRST, 255));
-    report(84, named(r, Edition::FIRST, 18_446_744_073_709_551_615));
+    report(104, named(r, Edition::FIRST, Rule::SECOND, Strict::OFF));
+    report(81, named(r, Edition::FIRST, 0, Strict::OFF));
+    report(82, named(r, Edition::FIRST, over::RULE, Strict::OFF));
+    report(83, named(r, Edition::FIRST, 255, Strict::OFF));
+    report(
+        84,
+        named(r, Edition::FIRST, 18_446_744_073_709_551_615, Strict::OFF),
+    );
+    // valid: strict, which answers the same of a send that lasts; flags: one too many, 255, the largest
+    let strict = named(r, Edition::FIRST, Rule::FIRST, Strict::ON);
+    report(105, strict);
+    report(85, named(r, Edition::FIRST, Rule::FIRST, over::STRICT));
+    report(86, named(r, Edition::FIRST, Rule::FIRST, 255));
+    report(
+        87,
+        named(r, Edition::FIRST, Rule::FIRST, 18_446_744_073_709_551_615),
+    );
+    // a send of zero length is booked with the flag off, 17 with it on
+    briefly(97, r);
+    briefly(105, strict);
 }

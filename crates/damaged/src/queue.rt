@@ -1,6 +1,7 @@
 // The queue manager: [0,10), rate 10, delay 2, 3 classes, unbudgeted, both flags.
 use crate::out;
 use crate::over;
+use legacy::Choices;
 use legacy::Flags;
 use legacy::Queue;
 use units::Bundle;
@@ -9,6 +10,7 @@ use units::Delay;
 use units::Interval;
 use units::Priority;
 use units::Rate;
+use units::Strict;
 use units::TxData;
 use units::Volume;
 
@@ -54,7 +56,9 @@ fn queue(
     queues[3] = Volume(fourth);
     let mut budgets = [Volume(0); Queue::CLASSES_MAX];
     budgets[0] = Volume(budget);
+    let choices = Choices::ported();
     Queue {
+        choices: choices,
         window: Interval {
             start: Date(0),
             end: Date(end),
@@ -66,6 +70,40 @@ fn queue(
         queues: queues,
         budgets: budgets,
     }
+}
+
+// The record with another flag for sends of zero length.
+fn named(r: Queue, strict: u64) -> Queue {
+    let made = Choices {
+        strict: Strict(strict),
+    };
+    let mut other = r;
+    other.choices = made;
+    other
+}
+
+// At 0, size 9, priority 1: the offer is send 0,0, receive 2,2.
+fn briefly(label: u8, r: Queue) {
+    let at = Date(0);
+    let bundle = Bundle {
+        size: Volume(9),
+        priority: Priority(1),
+    };
+    let dates = TxData {
+        send: Interval {
+            start: Date(0),
+            end: Date(0),
+        },
+        recv: Interval {
+            start: Date(2),
+            end: Date(2),
+        },
+    };
+    let good = r.ok();
+    let o = r.dry_run(at, bundle);
+    let b = r.book(at, bundle, dates);
+    let l = r.list();
+    out::line(117, label, good, o.number, b.number, l.number);
 }
 
 fn flags(self_update: bool, budgeted: bool) -> Flags {
@@ -100,4 +138,15 @@ pub fn run() {
     report(74, queue(10, 10, 2, 3, f, 0, 1, 0));
     report(75, queue(10, 10, 2, 3, f, 0, 0, 1));
     report(76, queue(10, 10, 2, 3, budgeted, 0, 0, over::BUDGET));
+    // valid: strict, which answers the same of a send that lasts; flags: one too many, 255, the largest
+    let fresh = queue(10, 10, 2, 3, f, 0, 0, 0);
+    let manual = queue(10, 10, 2, 3, by_hand, 0, 0, 0);
+    report(102, named(fresh, Strict::ON));
+    report(77, named(fresh, over::STRICT));
+    report(78, named(fresh, 255));
+    report(79, named(fresh, 18_446_744_073_709_551_615));
+    // a send of zero length is booked with the flag off, 17 with it on, under self-update or not
+    briefly(97, fresh);
+    briefly(102, named(fresh, Strict::ON));
+    briefly(103, named(manual, Strict::ON));
 }

@@ -50,4 +50,4 @@ module _ (line : List ℕ) where
 
   pub queue-opened : queueOpened (queueOf line) .number ≡ 0 → queueOk (queueOpened (queueOf line) .manager) ≡ true
   unfolding queueOpened queueOf
-  queue-opened z = opened-ok _ _ _ _ _ _ z
+  queue-opened z = opened-ok _ _ _ _ _ _ _ z

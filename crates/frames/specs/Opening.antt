@@ -14,6 +14,7 @@ use Rattle.pseg.specs.Open.{openOf as openPriority}
 use Rattle.poly_seg.specs.declared.Opened.{Opened as PolynomialOpened}
 use Rattle.poly_seg.specs.Open.{openOf as openPolynomial}
 use Rattle.legacy.specs.declared.Opened.{Opened as QueueOpened}
+use Rattle.legacy.specs.Choices.{ported as portedQueue}
 use Rattle.legacy.specs.Open.{openOf as openQueue}
 use Rattle.layout.specs.declared.opening.Opening.{Opening}
 use Rattle.layout.specs.declared.polynomial.PolynomialOpening.{PolynomialOpening}
@@ -32,10 +33,10 @@ noFrame h = refusedCall h 255
 
 -- a frame states its delay rule, and nothing else of what an opening chooses
 abbrev pub choosing : Rule → Choices
-choosing rule = record { edition = ported .edition; rule = rule }
+choosing rule = record { edition = ported .edition; rule = rule; strict = ported .strict }
 
 abbrev pub choosingPolynomial : Rule → PolynomialChoices
-choosingPolynomial rule = record { mode = portedPolynomial .mode; rule = rule }
+choosingPolynomial rule = record { mode = portedPolynomial .mode; rule = rule; strict = portedPolynomial .strict }
 
 -- the free-volume opening with the frame's figures
 unfoldable pub freeOpened : Opening → FreeOpened
@@ -69,7 +70,7 @@ polynomialFrame line h =
 
 -- the queue opening with the frame's figures
 unfoldable pub queueOpened : QueueOpening → QueueOpened
-queueOpened f = openQueue (f .window) (f .rate) (f .delay) (f .classes) (f .flags) (f .budgets)
+queueOpened f = openQueue portedQueue (f .window) (f .rate) (f .delay) (f .classes) (f .flags) (f .budgets)
 
 -- 04, likewise; flags above 7 are no frame
 unfoldable pub queueFrame : List ℕ → Held → Done

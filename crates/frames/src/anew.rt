@@ -21,9 +21,11 @@ fn choosing(rule: Rule) -> contact::Choices
 {
     let ported = contact::Choices::ported();
     let edition = ported.edition;
+    let strict = ported.strict;
     contact::Choices {
         edition: edition,
         rule: rule,
+        strict: strict,
     }
 }
 
@@ -32,9 +34,11 @@ fn choosing_polynomial(rule: Rule) -> poly_seg::Choices
 {
     let ported = poly_seg::Choices::ported();
     let mode = ported.mode;
+    let strict = ported.strict;
     poly_seg::Choices {
         mode: mode,
         rule: rule,
+        strict: strict,
     }
 }
 
@@ -89,5 +93,6 @@ pub fn queue(line: &[u8]) -> legacy::Opened
     let classes = f.classes;
     let flags = f.flags;
     let budgets = f.budgets;
-    Queue::open(window, rate, delay, classes, flags, budgets)
+    let choices = legacy::Choices::ported();
+    Queue::open(choices, window, rate, delay, classes, flags, budgets)
 }

@@ -10,6 +10,7 @@ use poly_seg::Choices;
 use poly_seg::PolySeg;
 use segmentation::Rule;
 use units::Date;
+use units::Strict;
 ghost use mathlib.Core.Path.{_≡_};
 ghost use Rattle.held.specs.State.{noPolynomial, keptPolynomial};
 
@@ -26,6 +27,7 @@ pub fn empty() -> PolySeg
         choices: Choices {
             mode: Mode(0),
             rule: Rule(0),
+            strict: Strict(0),
         },
         window: window,
         polynome: Polynome {

@@ -2,12 +2,14 @@
 use crate::Done;
 use crate::Held;
 use crate::Kind;
+use legacy::Choices;
 use legacy::Flags;
 use legacy::Queue;
 use units::Date;
 use units::Delay;
 use units::Interval;
 use units::Rate;
+use units::Strict;
 use units::Volume;
 ghost use mathlib.Core.Path.{_≡_};
 ghost use Rattle.held.specs.State.{noQueue, keptQueue};
@@ -18,6 +20,7 @@ pub fn empty() -> Queue
 {
     let none = [Volume(0); Queue::CLASSES_MAX];
     Queue {
+        choices: Choices { strict: Strict(0) },
         window: Interval {
             start: Date(0),
             end: Date(0),

@@ -11,6 +11,7 @@ use Rattle.units.specs.declared.TxData.{TxData}
 use Rattle.units.specs.declared.Volume.{Volume}
 use Rattle.units.specs.declared.Offer.{Offer}
 use Rattle.units.specs.Granted.{refusalOf}
+use Rattle.contact.specs.Record.{strictOf}
 use Rattle.units.proofs.Logic.{pick-keeps}
 use Rattle.free_list.specs.declared.Chosen.{Chosen}
 use Rattle.free_list.specs.declared.Cut.{Cut}
@@ -30,7 +31,7 @@ use Rattle.pseg.specs.Book.{setList}
 use Rattle.pseg.proofs.ByDryRun.{dry-done}
 use Rattle.pseg.proofs.Kept.{book-keeps as priority-book}
 use Rattle.poly_seg.specs.declared.Booked.{Booked as PolynomialBooked}
-use Rattle.poly_seg.specs.Record.{recordOk as polynomialOk}
+use Rattle.poly_seg.specs.Record.{recordOk as polynomialOk, strictOf as strictPolynomial}
 use Rattle.poly_seg.specs.Book.{cutFree as cutBare, withFree}
 use Rattle.poly_seg.specs.Granted.{chosenOf as chosenPolynomial}
 use Rattle.poly_seg.proofs.Calls.{chosen-done as polynomial-done}
@@ -71,9 +72,9 @@ module _ (h : Held) (ok : heldOk h ≡ true) where
   queue-ok e = kept-as h e ok
 
   module _ (at : Date) (b : Bundle) (d : TxData) where
-    module _ {c : Chosen} (e : h .kind ≡ Free) (is : c ≡ chosenFree (h .free) at b) (none : refusalOf (c .offer) d ≡ 0) where
-      free-none : refusalOf (chosenFree (h .free) at b .offer) d ≡ 0
-      free-none = ap (λ (x : Chosen). refusalOf (x .offer) d) (sym is) ∙ none
+    module _ {c : Chosen} (e : h .kind ≡ Free) (is : c ≡ chosenFree (h .free) at b) (none : refusalOf (strictOf (h .free .contact)) (c .offer) d ≡ 0) where
+      free-none : refusalOf (strictOf (h .free .contact)) (chosenFree (h .free) at b .offer) d ≡ 0
+      free-none = ap (λ (x : Chosen). refusalOf (strictOf (h .free .contact)) (x .offer) d) (sym is) ∙ none
 
       pub free-inside : Inside (h .free .free) (c .place) (b .size .0)
       free-inside = rw is (free-done _ _ _ (free-ok e) d free-none .1)
@@ -87,9 +88,9 @@ module _ (h : Held) (ok : heldOk h ≡ true) where
           let left = left-is (h .free) _ _ (cut .1) room ∙ ap (λ (y : Cut). withVolumes (h .free) (y .list)) (cut .0 ∙ ap (λ (y : Chosen). cutVolumes (h .free) (y .place) (d .send) (b .size .0)) is) in
           ap freeOk (left ∙ sym (ap (λ (y : FreeBooked). y .manager) (free-done _ _ _ r d free-none .0))) ∙ free-book _ at b d r)
 
-    module _ {c : Chosen} (e : h .kind ≡ Polynomial) (is : c ≡ chosenPolynomial (h .polynomial) at b) (none : refusalOf (c .offer) d ≡ 0) where
-      polynomial-none : refusalOf (chosenPolynomial (h .polynomial) at b .offer) d ≡ 0
-      polynomial-none = ap (λ (x : Chosen). refusalOf (x .offer) d) (sym is) ∙ none
+    module _ {c : Chosen} (e : h .kind ≡ Polynomial) (is : c ≡ chosenPolynomial (h .polynomial) at b) (none : refusalOf (strictPolynomial (h .polynomial)) (c .offer) d ≡ 0) where
+      polynomial-none : refusalOf (strictPolynomial (h .polynomial)) (chosenPolynomial (h .polynomial) at b .offer) d ≡ 0
+      polynomial-none = ap (λ (x : Chosen). refusalOf (strictPolynomial (h .polynomial)) (x .offer) d) (sym is) ∙ none
 
       pub polynomial-inside : Inside (h .polynomial .free) (c .place) 0
       polynomial-inside = rw is (polynomial-done _ _ _ (polynomial-ok e) d polynomial-none .1)
@@ -103,9 +104,9 @@ module _ (h : Held) (ok : heldOk h ≡ true) where
           let left = ap (λ (y : Cut). withFree (h .polynomial) (y .list)) (cut ∙ ap (λ (y : Chosen). cutBare (h .polynomial) (y .place) (d .send)) is) in
           ap polynomialOk (left ∙ sym (ap (λ (y : PolynomialBooked). y .manager) (polynomial-done _ _ _ r d polynomial-none .0))) ∙ polynomial-book _ at b d r)
 
-    module _ {o : Offer} (e : h .kind ≡ Priority) (is : o ≡ dryRunPriority (h .priority) at b) (none : refusalOf o d ≡ 0) where
-      priority-none : refusalOf (dryRunPriority (h .priority) at b) d ≡ 0
-      priority-none = ap (λ (x : Offer). refusalOf x d) (sym is) ∙ none
+    module _ {o : Offer} (e : h .kind ≡ Priority) (is : o ≡ dryRunPriority (h .priority) at b) (none : refusalOf (strictOf (h .priority .contact)) o d ≡ 0) where
+      priority-none : refusalOf (strictOf (h .priority .contact)) (dryRunPriority (h .priority) at b) d ≡ 0
+      priority-none = ap (λ (x : Offer). refusalOf (strictOf (h .priority .contact)) x d) (sym is) ∙ none
 
       pub priority-most : b .priority .0 ≤ priorityMax
       priority-most = dry-done _ at b d (priority-ok e) priority-none .1

@@ -198,7 +198,7 @@ fn feed(reply: &mut [u8], out: &mut [u8; LINE], chunk: &[u8], start: usize, firs
                     Kind::Free => {
                         let c = free.chosen(at, bundle);
                         let o = c.offer;
-                        let refused = o.refusal(dates);
+                        let refused = o.refusal(free.contact.choices.strict, dates);
                         if refused != 0 {
                             n = answer::put_number(out, refused);
                             continue;
@@ -217,7 +217,7 @@ fn feed(reply: &mut [u8], out: &mut [u8; LINE], chunk: &[u8], start: usize, firs
                     }
                     Kind::Priority => {
                         let o = priority.dry_run_kept(at, bundle);
-                        let refused = o.refusal(dates);
+                        let refused = o.refusal(priority.contact.choices.strict, dates);
                         if refused != 0 {
                             n = answer::put_number(out, refused);
                             continue;
@@ -232,7 +232,7 @@ fn feed(reply: &mut [u8], out: &mut [u8; LINE], chunk: &[u8], start: usize, firs
                     Kind::Polynomial => {
                         let c = polynomial.chosen(at, bundle);
                         let o = c.offer;
-                        let refused = o.refusal(dates);
+                        let refused = o.refusal(polynomial.choices.strict, dates);
                         if refused != 0 {
                             n = answer::put_number(out, refused);
                             continue;

@@ -10,8 +10,9 @@ ported-requires c κs = search needs
 
 returns : tie.Need-returns
 returns c =
-    let rule = c .before .before .args .rule in
-    ap (λ (h : Choices). record { edition = h .edition; rule = rule }) (c .before .ported .ensures)
+    let known = c .before .before in
+    let rule = known .before .args .rule in
+    ap (λ (h : Choices). record { edition = h .edition; rule = rule; strict = h .strict }) (known .ported .ensures)
 
 pub choosing-spec : {M : Type 1} → statement M
 choosing-spec = tie.close (tie.spec ported-requires returns)

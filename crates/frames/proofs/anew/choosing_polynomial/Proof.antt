@@ -10,8 +10,9 @@ ported-requires c κs = search needs
 
 returns : tie.Need-returns
 returns c =
-    let rule = c .before .before .args .rule in
-    ap (λ (h : Choices). record { mode = h .mode; rule = rule }) (c .before .ported .ensures)
+    let known = c .before .before in
+    let rule = known .before .args .rule in
+    ap (λ (h : Choices). record { mode = h .mode; rule = rule; strict = h .strict }) (known .ported .ensures)
 
 pub choosing-polynomial-spec : {M : Type 1} → statement M
 choosing-polynomial-spec = tie.close (tie.spec ported-requires returns)
