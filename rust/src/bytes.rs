@@ -6,7 +6,7 @@
 //! or is what the original has, and the record then passes the same test as any
 //! other.
 
-use crate::choices::{Choices, Chosen, PolynomialChoices};
+use crate::choices::{Choices, Chosen, PolynomialChoices, QueueChoices};
 use crate::manager::{Manager, Record};
 use crate::record::{
     Bookings, Contact, DELAYS, FreeList, FreeVolume, LISTED, PolySeg, PrioritySeg, Queue,
@@ -19,12 +19,13 @@ use crate::segments::{BookingSegment, DelaySegment, Flags, Interval, Polynome, V
 const FREE: u8 = 0x21;
 const PRIORITY: u8 = 0x12;
 const POLYNOMIAL: u8 = 0x13;
-const QUEUE: u8 = 4;
+const QUEUE: u8 = 0x14;
 
 /// The forms that records had before they named their choices.
 const FREE_WITHOUT_CHOICES: u8 = 0x11;
 const PRIORITY_WITHOUT_CHOICES: u8 = 2;
 const POLYNOMIAL_WITHOUT_CHOICES: u8 = 3;
+const QUEUE_WITHOUT_CHOICES: u8 = 4;
 
 /// The form that free-volume records had before they held their room.
 const FREE_WITHOUT_ROOM: u8 = 1;
@@ -243,11 +244,6 @@ impl FreeList {
     }
 }
 
-/// The kind that a record's bytes begin with.
-fn kind(expected: u8, from: &mut &[u8]) -> Option<()> {
-    (u8::read(from)? == expected).then_some(())
-}
-
 impl Bytes for FreeVolume {
     fn write(&self, out: &mut Vec<u8>) {
         FREE.write(out);
@@ -332,6 +328,7 @@ impl Bytes for PolySeg {
 impl Bytes for Queue {
     fn write(&self, out: &mut Vec<u8>) {
         QUEUE.write(out);
+        self.choices.write(out);
         self.window.write(out);
         self.rate.write(out);
         self.delay.write(out);
@@ -342,8 +339,13 @@ impl Bytes for Queue {
     }
 
     fn read(from: &mut &[u8]) -> Option<Self> {
-        kind(QUEUE, from)?;
+        let choices = match u8::read(from)? {
+            QUEUE => Bytes::read(from)?,
+            QUEUE_WITHOUT_CHOICES => QueueChoices::default(),
+            _ => return None,
+        };
         Some(Queue {
+            choices,
             window: Bytes::read(from)?,
             rate: Bytes::read(from)?,
             delay: Bytes::read(from)?,

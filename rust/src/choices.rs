@@ -105,6 +105,46 @@ pub trait Chosen: Copy + Default {
 /// assert_eq!(received(1, 9), received(2, 9));
 /// assert_eq!(received(3, 4), Err(Refusal::CHOICE));
 /// ```
+///
+/// # The strict flag
+///
+/// Under edition 1 a bundle smaller than what one tick carries is offered a send
+/// whose start and end are equal. Booking it inside a free stretch takes the rest
+/// of the stretch from the list, and in a priority contact it lists an empty
+/// stretch, which can hide starts from later calls.
+///
+/// - With `strict: 0`, the original's, it is booked all the same.
+/// - With `strict: 1` a dry run still shows the offer, and booking it is refused
+///   with [`Refusal::ZERO_LENGTH`](crate::Refusal::ZERO_LENGTH). Every other call
+///   answers, and changes the record, exactly as without the flag. A priority
+///   contact opened so never lists an empty stretch. This is proved.
+///
+/// Dates that are not offered are
+/// [`Refusal::NOT_OFFERED`](crate::Refusal::NOT_OFFERED) before that, and a full
+/// list is [`Refusal::FULL`](crate::Refusal::FULL) after it. Under edition 2 every
+/// send has a length, and the flag refuses no booking.
+///
+/// Document 01's case 3, nine units where a tick carries ten:
+///
+/// ```
+/// use howrekano::{Bundle, Choices, DelaySegment, FreeVolume, Interval, RateSegment, Refusal};
+///
+/// let window = Interval { start: 0, end: 10 };
+/// let rates = [RateSegment { start: 0, end: 10, rate: 10 }];
+/// let delays = [DelaySegment { start: 0, end: 10, delay: 3 }];
+/// let room_after = |strict, size| {
+///     let choices = Choices { strict, ..Choices::default() };
+///     let mut contact = FreeVolume::open_with(choices, window, &rates, &delays)?;
+///     let bundle = Bundle { size, priority: 0 };
+///     let offer = contact.dry_run(5, bundle)?;
+///     contact.book(5, bundle, offer)?;
+///     Ok(contact.room())
+/// };
+/// assert_eq!(room_after(0, 9), Ok(50)); // [5,10) is gone
+/// assert_eq!(room_after(1, 9), Err(Refusal::ZERO_LENGTH));
+/// assert_eq!(room_after(1, 10), room_after(0, 10));
+/// assert_eq!(room_after(2, 10), Err(Refusal::CHOICE));
+/// ```
 #[repr(C)]
 #[derive(Clone, Copy, Debug, PartialEq, Eq, Hash)]
 pub struct Choices {
@@ -112,6 +152,8 @@ pub struct Choices {
     pub edition: u64,
     /// The rule of the delays: 1 or 2.
     pub rule: u64,
+    /// The strict flag: 0 is off, 1 refuses to book sends of no length.
+    pub strict: u64,
 }
 
 impl Default for Choices {
@@ -120,15 +162,16 @@ impl Default for Choices {
         Choices {
             edition: 1,
             rule: 1,
+            strict: 0,
         }
     }
 }
 
 impl Chosen for Choices {
-    const COUNT: usize = 2;
+    const COUNT: usize = 3;
 
     fn places(&mut self) -> impl ExactSizeIterator<Item = &mut u64> {
-        [&mut self.edition, &mut self.rule].into_iter()
+        [&mut self.edition, &mut self.rule, &mut self.strict].into_iter()
     }
 }
 
@@ -214,6 +257,11 @@ impl Chosen for Choices {
 /// assert_eq!(opened(2, 10).and_then(late)?.recv, Interval { start: 11, end: 12 });
 /// # Ok::<(), Refusal>(())
 /// ```
+///
+/// # The strict flag
+///
+/// It is that of [`Choices`](Choices#the-strict-flag), and here it refuses no
+/// booking: in both modes every send has a length.
 #[repr(C)]
 #[derive(Clone, Copy, Debug, PartialEq, Eq, Hash)]
 pub struct PolynomialChoices {
@@ -221,19 +269,77 @@ pub struct PolynomialChoices {
     pub mode: u64,
     /// The rule of the delays: 1 or 2.
     pub rule: u64,
+    /// The strict flag: 0 or 1, and no booking here depends on it.
+    pub strict: u64,
 }
 
 impl Default for PolynomialChoices {
     /// What the original has.
     fn default() -> Self {
-        PolynomialChoices { mode: 1, rule: 1 }
+        PolynomialChoices {
+            mode: 1,
+            rule: 1,
+            strict: 0,
+        }
     }
 }
 
 impl Chosen for PolynomialChoices {
-    const COUNT: usize = 2;
+    const COUNT: usize = 3;
 
     fn places(&mut self) -> impl ExactSizeIterator<Item = &mut u64> {
-        [&mut self.mode, &mut self.rule].into_iter()
+        [&mut self.mode, &mut self.rule, &mut self.strict].into_iter()
+    }
+}
+
+/// What a queue contact is opened with beside its figures and flags, for
+/// [`Queue::open_with`](crate::Queue::open_with). The record names it, and no
+/// call changes it.
+///
+/// [`QueueChoices::default`] is what the original has, and what `open` takes. A
+/// choice that there is not is refused with
+/// [`Refusal::CHOICE`](crate::Refusal::CHOICE), before all else.
+///
+/// # The strict flag
+///
+/// A bundle smaller than the rate is sent in no time. With `strict: 1` a dry run
+/// still shows that offer, and booking it is refused with
+/// [`Refusal::ZERO_LENGTH`](crate::Refusal::ZERO_LENGTH), before
+/// [`Refusal::QUEUE`](crate::Refusal::QUEUE), and without self-update too, where a
+/// booking enqueues nothing. Every other call answers, and changes the record,
+/// exactly as without the flag; [`enqueue`](crate::Manager::enqueue) and
+/// [`dequeue`](crate::Manager::dequeue) take small bundles as before. This is
+/// proved.
+///
+/// ```
+/// use howrekano::{Bundle, Flags, Interval, Queue, QueueChoices, Refusal};
+///
+/// let window = Interval { start: 0, end: 10 };
+/// let flags = Flags { add_delay: true, self_update: true, budgeted: false };
+/// let queued_after = |strict, size| {
+///     let choices = QueueChoices { strict };
+///     let mut contact = Queue::open_with(choices, window, 10, 2, 3, flags, &[])?;
+///     let bundle = Bundle { size, priority: 1 };
+///     let offer = contact.dry_run(0, bundle)?;
+///     contact.book(0, bundle, offer)?;
+///     Ok(contact.list().to_vec())
+/// };
+/// assert_eq!(queued_after(0, 9), Ok(vec![9, 9, 0]));
+/// assert_eq!(queued_after(1, 9), Err(Refusal::ZERO_LENGTH));
+/// assert_eq!(queued_after(1, 10), Ok(vec![10, 10, 0]));
+/// assert_eq!(queued_after(2, 10), Err(Refusal::CHOICE));
+/// ```
+#[repr(C)]
+#[derive(Clone, Copy, Debug, Default, PartialEq, Eq, Hash)]
+pub struct QueueChoices {
+    /// The strict flag: 0 is off, 1 refuses to book sends of no length.
+    pub strict: u64,
+}
+
+impl Chosen for QueueChoices {
+    const COUNT: usize = 1;
+
+    fn places(&mut self) -> impl ExactSizeIterator<Item = &mut u64> {
+        [&mut self.strict].into_iter()
     }
 }

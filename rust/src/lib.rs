@@ -25,6 +25,11 @@
 //! the original does, or with `open_with` the later one: [the rule of the
 //! delays](Choices#the-rule-of-the-delays) says when.
 //!
+//! A bundle that is sent in no time is booked as the original does, which takes a
+//! free stretch's rest or lists an empty one; or with `open_with` booking it is
+//! refused: [the strict flag](Choices#the-strict-flag) says when, and
+//! [`QueueChoices`] for queues.
+//!
 //! A record can be taken out and put back, as bytes or as plain data:
 //!
 //! ```
@@ -61,7 +66,7 @@ mod refusal;
 #[allow(missing_docs)]
 mod segments;
 
-pub use choices::{Choices, PolynomialChoices};
+pub use choices::{Choices, PolynomialChoices, QueueChoices};
 pub use free::FreeVolume;
 pub use manager::{Manager, Record};
 pub use polynomial::PolySeg;

@@ -1,5 +1,6 @@
 //! The queue manager: for each class of priorities, the volume that waits.
 
+use crate::choices::QueueChoices;
 use crate::manager::Manager;
 use crate::record::{self, QueueOpening, placed, used};
 use crate::refusal::Refusal;
@@ -24,8 +25,9 @@ use crate::segments::{Flags, Interval};
 pub type Queue = Manager<record::Queue>;
 
 impl Queue {
-    /// Opens a contact of one rate and one delay with 1 to 8 classes. Budgets
-    /// are given for each class where the flags say so, else for none.
+    /// Opens a contact of one rate and one delay with 1 to 8 classes, with the
+    /// original's choices. Budgets are given for each class where the flags say
+    /// so, else for none.
     pub fn open(
         window: Interval,
         rate: u64,
@@ -34,7 +36,22 @@ impl Queue {
         flags: Flags,
         budgets: &[u64],
     ) -> Result<Self, Refusal> {
+        let choices = QueueChoices::default();
+        Self::open_with(choices, window, rate, delay, classes, flags, budgets)
+    }
+
+    /// [`Queue::open`] with these choices.
+    pub fn open_with(
+        choices: QueueChoices,
+        window: Interval,
+        rate: u64,
+        delay: u64,
+        classes: usize,
+        flags: Flags,
+        budgets: &[u64],
+    ) -> Result<Self, Refusal> {
         let opening = QueueOpening {
+            choices,
             window,
             rate,
             delay,
@@ -48,6 +65,11 @@ impl Queue {
             true => Err(Refusal::CLASSES),
             false => Ok(opened),
         }
+    }
+
+    /// What the contact was opened with.
+    pub fn choices(&self) -> QueueChoices {
+        self.record().choices
     }
 
     /// What is queued, by class.

@@ -1,7 +1,7 @@
 //! The managers' records, their openings' figures and their lists, laid out as
 //! in the library: plain data with fixed places.
 
-use crate::choices::{Choices, PolynomialChoices};
+use crate::choices::{Choices, PolynomialChoices, QueueChoices};
 use crate::segments::{
     BookingSegment, DelaySegment, Flags, Interval, Polynome, RateSegment, VolumeSegment,
 };
@@ -68,6 +68,7 @@ pub struct PolySeg {
 #[repr(C)]
 #[derive(Clone, Copy, Debug, PartialEq, Eq)]
 pub struct Queue {
+    pub choices: QueueChoices,
     pub window: Interval,
     pub rate: u64,
     pub delay: u64,
@@ -102,6 +103,7 @@ pub struct PolynomialOpening {
 #[repr(C)]
 #[derive(Clone, Copy, Debug, PartialEq, Eq)]
 pub struct QueueOpening {
+    pub choices: QueueChoices,
     pub window: Interval,
     pub rate: u64,
     pub delay: u64,

@@ -3,7 +3,8 @@
 use std::error::Error;
 use std::fmt;
 
-/// A refusal, with document 01's number. A refused call has changed nothing.
+/// A refusal, with document 01's number, or 02's. A refused call has changed
+/// nothing.
 ///
 /// ```
 /// use howrekano::{Bundle, DelaySegment, FreeVolume, Interval, RateSegment, Refusal};
@@ -26,7 +27,7 @@ impl Refusal {
     pub const RECORD: Refusal = Refusal(1);
     pub const BUNDLE: Refusal = Refusal(2);
     /// At an opening, 2 is for a choice that there is not: an edition, a mode or a
-    /// rule other than 1 or 2.
+    /// rule other than 1 or 2, or a strict flag other than 0 or 1.
     pub const CHOICE: Refusal = Self::BUNDLE;
     pub const WINDOW: Refusal = Refusal(3);
     pub const RATES: Refusal = Refusal(4);
@@ -43,6 +44,9 @@ impl Refusal {
     pub const SELF_UPDATE: Refusal = Refusal(12);
     pub const QUEUE: Refusal = Refusal(13);
     pub const CLASSES: Refusal = Refusal(14);
+    /// Met in a contact opened with the strict flag alone, by a booking of what is
+    /// offered. Under edition 2 and with a polynomial every send has a length.
+    pub const ZERO_LENGTH: Refusal = Refusal(17);
 
     /// What a call's number says: 0 is done.
     #[inline]
@@ -53,7 +57,7 @@ impl Refusal {
         }
     }
 
-    /// Document 01's number, 1 to 14.
+    /// Document 01's number, 1 to 14, or 02's 17.
     pub fn number(self) -> u8 {
         self.0
     }
@@ -76,7 +80,7 @@ impl Refusal {
             ),
             Self::BUNDLE => (
                 "the time, the size or the priority is outside its limits, or an opening names a choice that there is not",
-                "ask at a time of 0 to 2^40 for a size of 1 to 2^38 with a priority of 0 to 127; open a contact with edition 1 or 2, a polynomial with mode 1 or 2, and either with rule 1 or 2",
+                "ask at a time of 0 to 2^40 for a size of 1 to 2^38 with a priority of 0 to 127; open a contact with edition 1 or 2, a polynomial with mode 1 or 2, either with rule 1 or 2, and any with strict 0 or 1",
             ),
             Self::WINDOW => (
                 "the window is outside its limits",
@@ -125,6 +129,10 @@ impl Refusal {
             Self::CLASSES => (
                 "the class count or a budget is outside its limits",
                 "give 1 to 8 classes and, for each of them or for none, a budget of at most 2^38",
+            ),
+            Self::ZERO_LENGTH => (
+                "the offer's send starts and ends on the same tick, and the contact was opened strict",
+                "put small bundles together, to a size of at least what a tick carries at that time; or open the contact with edition 2, whose sends all have a length, or with strict 0",
             ),
             _ => (
                 "an unknown number",
