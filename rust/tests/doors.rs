@@ -8,7 +8,7 @@ use std::fmt::Debug;
 use common::{book_stated, offered, refuses};
 use howrekano::{
     Bundle, Choices, DelaySegment, Flags, FreeVolume, Interval, Manager, PolySeg, Polynome,
-    PolynomialChoices, PrioritySeg, Queue, RateSegment, Record, Refusal, record,
+    PolynomialChoices, PrioritySeg, Queue, QueueChoices, RateSegment, Record, Refusal, record,
 };
 
 /// Xorshift: the same numbers at every run.
@@ -62,6 +62,7 @@ fn choices(rng: &mut Rng) -> Choices {
     Choices {
         edition: 1 + rng.below(2),
         rule: 1 + rng.below(2),
+        strict: rng.below(2),
     }
 }
 
@@ -124,13 +125,14 @@ fn free_volume() {
         assert_eq!(FreeVolume::from_bytes(&manager.to_bytes()), Ok(manager));
         tampers(&mut rng, &manager.to_bytes(), FreeVolume::from_bytes);
         let mut damaged = *manager.record();
-        match rng.below(7) {
+        match rng.below(8) {
             0 => damaged.free.count = rng.word() as usize | 65,
             1 => damaged.free.segments[0].volume = u64::MAX - rng.below(9),
             2 => damaged.contact.rates[rng.below(2) as usize].volume ^= 1 << 50,
             3 => damaged.contact.delays[15].delay = 1 + rng.word() % 9,
             4 => damaged.room = damaged.room.wrapping_sub(9).wrapping_add(rng.below(9)),
             5 => damaged.contact.choices.rule = rng.word() | 4,
+            6 => damaged.contact.choices.strict = rng.word() | 4,
             _ => damaged.free.segments[63].end = u64::MAX,
         }
         refuses(damaged);
@@ -149,11 +151,12 @@ fn priority() {
         assert_eq!(PrioritySeg::from_bytes(&manager.to_bytes()), Ok(manager));
         tampers(&mut rng, &manager.to_bytes(), PrioritySeg::from_bytes);
         let mut damaged = *manager.record();
-        match rng.below(5) {
+        match rng.below(6) {
             0 => damaged.bookings.count = 0,
             1 => damaged.bookings.segments[0].start += 1,
             2 => damaged.contact.window.end = 1 << 41,
             3 => damaged.contact.choices.rule = rng.word() | 4,
+            4 => damaged.contact.choices.strict = rng.word() | 4,
             _ => damaged.contact.rate_count = rng.word() as usize | 17,
         }
         refuses(damaged);
@@ -167,6 +170,7 @@ fn polynomial() {
         let choices = PolynomialChoices {
             mode: 1 + rng.below(2),
             rule: 1 + rng.below(2),
+            strict: rng.below(2),
         };
         let polynome = Polynome {
             coefficients: [rng.below(9) as i64, rng.below(3) as i64 - 1, 0, 0],
@@ -178,12 +182,13 @@ fn polynomial() {
         assert_eq!(PolySeg::from_bytes(&manager.to_bytes()), Ok(manager));
         tampers(&mut rng, &manager.to_bytes(), PolySeg::from_bytes);
         let mut damaged = *manager.record();
-        match rng.below(6) {
+        match rng.below(7) {
             0 => damaged.free.segments[0].volume = 1 + rng.word() % 9,
             1 => damaged.polynome.coefficients[3] = i64::MIN,
             2 => damaged.polynome.offset = u64::MAX,
             3 => damaged.choices.mode = rng.word() | 4,
             4 => damaged.choices.rule = rng.word() | 4,
+            5 => damaged.choices.strict = rng.word() | 4,
             _ => damaged.delay_count = rng.word() as usize | 17,
         }
         refuses(damaged);
@@ -200,7 +205,11 @@ fn queue() {
             budgeted: rng.below(2) == 0,
         };
         let budgets: &[u64] = if flags.budgeted { &[90, 80, 70] } else { &[] };
-        let mut manager = Queue::open(WINDOW, 3, 2, 3, flags, budgets).unwrap();
+        let choices = QueueChoices {
+            strict: rng.below(2),
+        };
+        let opened = Queue::open_with(choices, WINDOW, 3, 2, 3, flags, budgets);
+        let mut manager = opened.unwrap();
         talk(&mut rng, &mut manager, |m| record::Classes {
             classes: m.record().classes,
             queues: m.record().queues,
@@ -218,10 +227,11 @@ fn queue() {
         assert_eq!(Queue::from_bytes(&manager.to_bytes()), Ok(manager));
         tampers(&mut rng, &manager.to_bytes(), Queue::from_bytes);
         let mut damaged = *manager.record();
-        match rng.below(4) {
+        match rng.below(5) {
             0 => damaged.classes = rng.word() as usize | 9,
             1 => damaged.queues[7] = 1 + rng.word() % 9,
             2 => damaged.budgets[7] = u64::MAX,
+            3 => damaged.choices.strict = rng.word() | 4,
             _ => damaged.rate = 0,
         }
         refuses(damaged);

@@ -18,7 +18,11 @@ const SECOND: Choices = edition(2);
 const NONE: [u64; 3] = [0, 3, u64::MAX];
 
 const fn edition(edition: u64) -> Choices {
-    Choices { edition, rule: 1 }
+    Choices {
+        edition,
+        rule: 1,
+        strict: 0,
+    }
 }
 
 const fn bundle(size: u64, priority: u8) -> Bundle {

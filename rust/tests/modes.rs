@@ -15,7 +15,11 @@ const EXACT: PolynomialChoices = mode(2);
 const NONE: [u64; 4] = [0, 3, 255, u64::MAX];
 
 const fn mode(mode: u64) -> PolynomialChoices {
-    PolynomialChoices { mode, rule: 1 }
+    PolynomialChoices {
+        mode,
+        rule: 1,
+        strict: 0,
+    }
 }
 
 const fn bundle(size: u64) -> Bundle {

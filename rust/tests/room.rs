@@ -99,8 +99,9 @@ fn bytes_hold_it_and_those_of_the_earlier_form_are_read() {
     assert_eq!(FreeVolume::from_bytes(&earlier), Ok(contact));
     // The form now: another first byte, the choices, and the room at the end.
     let now = contact.to_bytes();
-    assert_eq!(now[..18], bytes("21 02 0000000000000001 0000000000000001"));
-    assert_eq!(now[18..now.len() - 8], earlier[1..]);
+    let chosen = "03 0000000000000001 0000000000000001 0000000000000000";
+    assert_eq!(now[..26], bytes(&format!("21 {chosen}")));
+    assert_eq!(now[26..now.len() - 8], earlier[1..]);
     assert_eq!(now[now.len() - 8..], 90_u64.to_be_bytes());
     assert_eq!(FreeVolume::from_bytes(&now), Ok(contact));
 }

@@ -94,7 +94,12 @@ macro_rules! rated {
                 window: Interval,
                 delays: &[DelaySegment],
             ) -> Result<$name, Refusal> {
-                $name::open_with(Choices { edition, rule }, window, &rates(window), delays)
+                let choices = Choices {
+                    edition,
+                    rule,
+                    ..Choices::default()
+                };
+                $name::open_with(choices, window, &rates(window), delays)
             }
 
             fn plain(window: Interval, delays: &[DelaySegment]) -> Result<$name, Refusal> {
@@ -102,7 +107,7 @@ macro_rules! rated {
             }
 
             fn chosen(contact: &$name) -> (u64, u64) {
-                let Choices { edition, rule } = contact.choices();
+                let Choices { edition, rule, .. } = contact.choices();
                 (edition, rule)
             }
 
@@ -122,7 +127,12 @@ impl Ruled for record::PolySeg {
         window: Interval,
         delays: &[DelaySegment],
     ) -> Result<PolySeg, Refusal> {
-        PolySeg::open_with(PolynomialChoices { mode, rule }, window, FLAT, delays)
+        let choices = PolynomialChoices {
+            mode,
+            rule,
+            ..PolynomialChoices::default()
+        };
+        PolySeg::open_with(choices, window, FLAT, delays)
     }
 
     fn plain(window: Interval, delays: &[DelaySegment]) -> Result<PolySeg, Refusal> {
@@ -130,7 +140,7 @@ impl Ruled for record::PolySeg {
     }
 
     fn chosen(contact: &PolySeg) -> (u64, u64) {
-        let PolynomialChoices { mode, rule } = contact.choices();
+        let PolynomialChoices { mode, rule, .. } = contact.choices();
         (mode, rule)
     }
 
@@ -523,7 +533,10 @@ fn the_cover_is_asked_after_the_window_and_before_the_polynomial() {
     };
     let gap = [delay(0, 4, 1), delay(5, 10, 2)];
     let open = |window, rule| {
-        let choices = PolynomialChoices { mode: 1, rule };
+        let choices = PolynomialChoices {
+            rule,
+            ..PolynomialChoices::default()
+        };
         PolySeg::open_with(choices, window, steep, &gap).err()
     };
     let backward = Interval { start: 10, end: 0 };
