@@ -43,7 +43,8 @@ use crate::segments::{BookingSegment, DelaySegment, Interval, RateSegment};
 /// Under edition 1 a bundle that is smaller than what one tick carries is sent in
 /// no time, and booking it inside a stretch lists an empty one. Then a tick can be
 /// offered that is booked, or a start be hidden, as here. Under edition 2 every
-/// send has a length, so that no booking adds an empty stretch; that is proved too.
+/// send has a length, and [the strict flag](Choices#the-strict-flag) refuses to book
+/// one that has none, so that no booking adds an empty stretch; that is proved too.
 ///
 /// ```
 /// # use howrekano::{Bundle, DelaySegment, Interval, PrioritySeg, RateSegment, Refusal};
@@ -68,6 +69,12 @@ use crate::segments::{BookingSegment, DelaySegment, Interval, RateSegment};
 /// let offer = contact.dry_run(1, small)?;                 // sent from 1 to 2
 /// contact.book(1, small, offer)?;
 /// assert!(contact.list().iter().all(|s| s.start < s.end)); // [0,1) and [1,2) are listed
+///
+/// let strict = Choices { strict: 1, ..Choices::default() };
+/// let mut contact = PrioritySeg::open_with(strict, window, &rates, &delays)?;
+/// let offer = contact.dry_run(1, small)?;                 // from 1 to 1, not to be booked
+/// assert_eq!(contact.book(1, small, offer), Err(Refusal::ZERO_LENGTH));
+/// assert_eq!(contact.dry_run(0, all)?.send, Interval { start: 0, end: 2 });
 /// # Ok::<(), howrekano::Refusal>(())
 /// ```
 pub type PrioritySeg = Manager<record::PrioritySeg>;
