@@ -424,7 +424,9 @@ impl<R: Record> Manager<R> {
 
     /// Books what a dry run at this time offers. Where the record has changed
     /// so that it offers something else, the booking is refused with
-    /// [`Refusal::NOT_OFFERED`] and the record is as before.
+    /// [`Refusal::NOT_OFFERED`] and the record is as before. A contact opened with
+    /// [the strict flag](crate::Choices#the-strict-flag) refuses a send of no length
+    /// with [`Refusal::ZERO_LENGTH`].
     #[inline]
     pub fn book(&mut self, at: u64, bundle: Bundle, offer: Offer) -> Result<(), Refusal> {
         // SAFETY: the record of a manager keeps its rules, and a booking

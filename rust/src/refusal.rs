@@ -44,8 +44,8 @@ impl Refusal {
     pub const SELF_UPDATE: Refusal = Refusal(12);
     pub const QUEUE: Refusal = Refusal(13);
     pub const CLASSES: Refusal = Refusal(14);
-    /// Met in a contact opened with the strict flag alone, by a booking of what is
-    /// offered. Under edition 2 and with a polynomial every send has a length.
+    /// Met under the strict flag alone, where what a dry run offers is to be booked.
+    /// Under edition 2 and with a polynomial every send has a length.
     pub const ZERO_LENGTH: Refusal = Refusal(17);
 
     /// What a call's number says: 0 is done.
@@ -132,7 +132,7 @@ impl Refusal {
             ),
             Self::ZERO_LENGTH => (
                 "the offer's send starts and ends on the same tick, and the contact was opened strict",
-                "put small bundles together, to a size of at least what a tick carries at that time; or open the contact with edition 2, whose sends all have a length, or with strict 0",
+                "put small bundles together, to a size of at least what a tick carries at that time; or open the contact with strict 0, or a free-volume or priority one with edition 2, whose sends all have a length",
             ),
             _ => (
                 "an unknown number",
