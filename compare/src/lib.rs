@@ -33,6 +33,7 @@ pub mod segmented;
 pub mod serve;
 pub mod state;
 pub mod stated;
+pub mod strict;
 pub mod terminal;
 pub mod trial;
 

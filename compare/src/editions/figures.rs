@@ -4,6 +4,7 @@ use std::fmt;
 
 use super::terms::{Call, Manager, SECOND};
 use crate::rules::LATER;
+use crate::trial::choices::{Chosen, Flag};
 use crate::trial::tally::Tally;
 use crate::trial::words::grouped;
 use crate::trial::{Counted, choices};
@@ -54,6 +55,7 @@ type Called = (&'static str, Edition, Sort);
 pub struct Figures {
     answers: Tally<Called>,
     by_rule: Tally<(Rule, Sort)>,
+    by_flag: Tally<(Flag, Sort)>,
     pub dialogues: usize,
     pub differences: usize,
     /// Segments of the longest list.
@@ -67,20 +69,16 @@ pub struct Figures {
 }
 
 impl Figures {
-    pub fn count(
-        &mut self,
-        manager: Manager,
-        (edition, rule): (Edition, Rule),
-        sort: Sort,
-        number: u8,
-    ) {
+    pub fn count(&mut self, manager: Manager, chosen: Chosen, sort: Sort, number: u8) {
         let manager = match manager {
             Manager::Free => "free volume",
             Manager::Priority => "priority",
         };
-        let called = (manager, choices::counted(edition), sort);
+        let called = (manager, choices::counted(chosen.kind), sort);
         self.answers.count(called, number);
-        self.by_rule.count((choices::counted(rule), sort), number);
+        let rule = choices::counted(chosen.rule);
+        self.by_rule.count((rule, sort), number);
+        self.by_flag.count((Flag::of(chosen.strict), sort), number);
     }
 
     pub fn count_sums(&mut self, edition: Edition) {
@@ -110,7 +108,17 @@ impl Figures {
         self.by_rule.of(|called, number| (called, number) == wanted)
     }
 
-    fn lines(&self) -> [(&'static str, usize); 7] {
+    pub fn calls_with(&self, flag: Flag) -> usize {
+        self.by_flag.of(|called, _| called.0 == flag)
+    }
+
+    /// The same of records with this flag.
+    pub fn answered_with(&self, flag: Flag, sort: Sort, number: u8) -> usize {
+        let wanted = ((flag, sort), number);
+        self.by_flag.of(|called, number| (called, number) == wanted)
+    }
+
+    fn lines(&self) -> [(&'static str, usize); 8] {
         [
             ("dialogues", self.dialogues),
             ("segments of the longest list", self.longest_list),
@@ -125,6 +133,7 @@ impl Figures {
             ("bookings after which demand 3's sums were held", self.sums),
             ("  under edition 2", self.sums_second),
             ("calls under rule 2", self.calls_under(LATER)),
+            ("calls with the strict flag", self.calls_with(Flag::On)),
         ]
     }
 }
@@ -152,6 +161,9 @@ impl fmt::Display for Figures {
         for ((rule, sort), answers) in self.by_rule.lines() {
             let (rule, sort) = (choices::named("rule", rule), sort.name());
             writeln!(text, "{rule}, {sort}: {answers}")?;
+        }
+        for ((flag, sort), answers) in self.by_flag.lines() {
+            writeln!(text, "{}, {}: {answers}", flag.name(), sort.name())?;
         }
         for (about, count) in self.lines() {
             writeln!(text, "{about}: {}", grouped(count))?;

@@ -9,6 +9,7 @@ use super::terms::{Call, Dialogue, FIRST, Field, Manager, Opening, SECOND};
 use crate::frames::{Dates, Request};
 use crate::rules;
 use crate::trial::answers::{About, Difference, Said, compared};
+use crate::trial::choices::Chosen;
 
 /// Plays a dialogue up to the first difference.
 pub fn play<C: Calls>(
@@ -44,8 +45,8 @@ impl<C: Calls> Table<'_, C> {
         let is_done = answered == Said::Number(0);
         match call {
             Call::Open(opening) if is_done => self.begin(opening),
-            // Nothing is promised of the sums where the edition changes.
-            Call::Write(Field::Edition(_)) => self.sums = None,
+            // Nothing is promised of the sums where the edition or the flag changes.
+            Call::Write(Field::Edition(_) | Field::Strict(_)) => self.sums = None,
             Call::DryRun(request) => {
                 self.hold_length(&answered)?;
                 self.count_apart(*request, &answered);
@@ -66,18 +67,16 @@ impl<C: Calls> Table<'_, C> {
         compared(call, expected, answered)
     }
 
-    /// Edition and rule.
-    fn chosen_by(&self, call: &Call) -> (u64, u64) {
+    fn chosen_by(&self, call: &Call) -> Chosen {
         match call {
-            Call::Open(opening) => (opening.edition, opening.rule),
+            Call::Open(opening) => opening.chosen(),
             _ => self.chosen(),
         }
     }
 
-    /// With nothing open there are none.
-    fn chosen(&self) -> (u64, u64) {
+    fn chosen(&self) -> Chosen {
         let record = self.reading.record.as_ref();
-        record.map_or((0, 0), |it| (it.edition, it.rule))
+        record.map_or(Chosen::NOTHING, |it| it.chosen())
     }
 
     fn begin(&mut self, opening: &Opening) {
@@ -89,7 +88,7 @@ impl<C: Calls> Table<'_, C> {
 
     /// Under edition 2 no offer of either manager has zero length.
     fn hold_length(&self, answered: &Said) -> Result<(), About<Call>> {
-        let (edition, _) = self.chosen();
+        let edition = self.chosen().kind;
         match answered {
             Said::Offer(Dates([start, end, ..])) if edition == SECOND && start >= end => {
                 Err(About::Claim(format!("send {start},{end} has no length")))
@@ -152,7 +151,7 @@ impl<C: Calls> Table<'_, C> {
         };
         sums.book(request.load.size, dates).map_err(About::Claim)?;
         sums.see(listed, *room).map_err(About::Claim)?;
-        self.figures.count_sums(self.chosen().0);
+        self.figures.count_sums(self.chosen().kind);
         Ok(())
     }
 }

@@ -1,13 +1,16 @@
 //! Demand 3, and R-5's last sentence of it, tick by tick on the answers of the
-//! calls under test. The reading has no part in it.
+//! calls under test, and what follows from R-7's flag. The reading has no part in
+//! it.
 
 use super::reading::capacity::{Ticks, is_countable};
 use super::terms::{Opening, SECOND};
 use crate::frames::{Dates, Span, Window};
+use crate::strict::flag::ON;
 
 /// What has been booked since a fresh opening of the free-volume manager.
 pub struct Sums {
     edition: u64,
+    is_strict: bool,
     window: Window,
     ticks: Ticks,
     highest: u128,
@@ -25,6 +28,7 @@ impl Sums {
         let highest = rates.iter().map(|rate| rate.value as u128).max()?;
         is_countable(window).then(|| Sums {
             edition: opening.edition,
+            is_strict: opening.strict == ON,
             window,
             ticks: Ticks::of(window, rates),
             highest,
@@ -47,6 +51,7 @@ impl Sums {
         }
         self.sizes += size as u128;
         self.bookings += 1;
+        self.test_count()?;
         self.test_sizes()
     }
 
@@ -54,13 +59,23 @@ impl Sums {
         (tick - self.window.start) as usize
     }
 
-    /// That u is after the start follows from sizes of 1 and more.
+    /// That u is after the start follows from sizes of 1 and more; and under the
+    /// flag a send without length is not booked.
     fn test_send(&self, start: i64, end: i64) -> Result<(), String> {
         if !(self.window.start <= start && start <= end && end <= self.window.end) {
             return Err(format!("send {start},{end} is not in the window"));
         }
-        if self.edition == SECOND && start == end {
+        if (self.edition == SECOND || self.is_strict) && start == end {
             return Err(format!("send {start},{end} has no length"));
+        }
+        Ok(())
+    }
+
+    /// Under the flag each booking has a tick of its own.
+    fn test_count(&self) -> Result<(), String> {
+        let ticks = self.is_booked.len();
+        if self.is_strict && self.bookings > ticks as u128 {
+            return Err(format!("{} bookings in {ticks} ticks", self.bookings));
         }
         Ok(())
     }

@@ -4,6 +4,7 @@ use std::fmt;
 
 use crate::frames::{Dates, RatedOpening, Request, Window};
 use crate::trial::Spoken;
+use crate::trial::choices::Chosen;
 use crate::trial::words::{Asked, Sent, Spans};
 
 /// The editions there are.
@@ -26,7 +27,28 @@ pub struct Opening {
     pub edition: u64,
     /// Of the delays.
     pub rule: u64,
+    /// The flag.
+    pub strict: u64,
     pub contact: RatedOpening,
+}
+
+impl Opening {
+    pub fn of(chosen: Chosen, contact: RatedOpening) -> Self {
+        Opening {
+            edition: chosen.kind,
+            rule: chosen.rule,
+            strict: chosen.strict,
+            contact,
+        }
+    }
+
+    pub fn chosen(&self) -> Chosen {
+        Chosen {
+            kind: self.edition,
+            rule: self.rule,
+            strict: self.strict,
+        }
+    }
 }
 
 /// What can be written over a record's own.
@@ -34,6 +56,7 @@ pub struct Opening {
 pub enum Field {
     Edition(u64),
     Rule(u64),
+    Strict(u64),
 }
 
 #[derive(Clone, Debug, PartialEq, Eq)]
@@ -90,8 +113,8 @@ impl fmt::Display for Opening {
         let (rates, delays) = (Spans(&self.contact.rates), Spans(&self.contact.delays));
         write!(
             text,
-            "edition {}, rule {}, window [{start},{end}); rates {rates}; delays {delays}",
-            self.edition, self.rule
+            "edition {}, rule {}, strict {}, window [{start},{end}); rates {rates}; delays {delays}",
+            self.edition, self.rule, self.strict
         )
     }
 }
@@ -101,6 +124,7 @@ impl fmt::Display for Field {
         match self {
             Field::Edition(edition) => write!(text, "edition {edition}"),
             Field::Rule(rule) => write!(text, "rule {rule}"),
+            Field::Strict(strict) => write!(text, "strict {strict}"),
         }
     }
 }

@@ -470,7 +470,7 @@ pub fn spoil_poly(rng: &mut Rng, opening: &mut PolyOpening) {
     }
 }
 
-fn spoil_queue(rng: &mut Rng, opening: &mut QueueOpening) {
+pub fn spoil_queue(rng: &mut Rng, opening: &mut QueueOpening) {
     let class = rng.below(BUDGETS);
     match rng.below(7) {
         0 => spoil_window(rng, &mut opening.window),

@@ -5,6 +5,7 @@ use std::fmt;
 use super::claims::Held;
 use super::terms::{Call, EXACT};
 use crate::rules::LATER;
+use crate::trial::choices::{Chosen, Flag};
 use crate::trial::tally::Tally;
 use crate::trial::words::grouped;
 use crate::trial::{Counted, choices};
@@ -49,6 +50,7 @@ impl Sort {
 pub struct Figures {
     answers: Tally<(Mode, Sort)>,
     by_rule: Tally<(Rule, Sort)>,
+    by_flag: Tally<(Flag, Sort)>,
     pub dialogues: usize,
     pub differences: usize,
     /// Segments of the longest list.
@@ -78,9 +80,11 @@ impl Claimed {
 }
 
 impl Figures {
-    pub fn count(&mut self, (mode, rule): (Mode, Rule), sort: Sort, number: u8) {
-        self.answers.count((choices::counted(mode), sort), number);
-        self.by_rule.count((choices::counted(rule), sort), number);
+    pub fn count(&mut self, chosen: Chosen, sort: Sort, number: u8) {
+        let (mode, rule) = (choices::counted(chosen.kind), choices::counted(chosen.rule));
+        self.answers.count((mode, sort), number);
+        self.by_rule.count((rule, sort), number);
+        self.by_flag.count((Flag::of(chosen.strict), sort), number);
     }
 
     pub fn calls_of(&self, mode: Mode) -> usize {
@@ -103,7 +107,17 @@ impl Figures {
         self.by_rule.of(|called, number| (called, number) == wanted)
     }
 
-    fn lines(&self) -> [(&'static str, usize); 11] {
+    pub fn calls_with(&self, flag: Flag) -> usize {
+        self.by_flag.of(|called, _| called.0 == flag)
+    }
+
+    /// The same of records with this flag.
+    pub fn answered_with(&self, flag: Flag, sort: Sort, number: u8) -> usize {
+        let wanted = ((flag, sort), number);
+        self.by_flag.of(|called, number| (called, number) == wanted)
+    }
+
+    fn lines(&self) -> [(&'static str, usize); 12] {
         let Claimed {
             held,
             is_equal,
@@ -128,6 +142,7 @@ impl Figures {
             ),
             ("calls in mode 2", self.calls_of(EXACT)),
             ("calls under rule 2", self.calls_under(LATER)),
+            ("calls with the strict flag", self.calls_with(Flag::On)),
         ]
     }
 }
@@ -155,6 +170,9 @@ impl fmt::Display for Figures {
         for ((rule, sort), answers) in self.by_rule.lines() {
             let rule = choices::named("rule", rule);
             writeln!(text, "{rule}, {}: {answers}", sort.name())?;
+        }
+        for ((flag, sort), answers) in self.by_flag.lines() {
+            writeln!(text, "{}, {}: {answers}", flag.name(), sort.name())?;
         }
         for (about, count) in self.lines() {
             writeln!(text, "{about}: {}", grouped(count))?;

@@ -10,6 +10,7 @@ use super::terms::{Call, Dialogue, EXACT, PORTED};
 use crate::frames::{Dates, Request};
 use crate::rules;
 use crate::trial::answers::{About, Difference, Said, compared};
+use crate::trial::choices::Chosen;
 
 /// Plays a dialogue up to the first difference.
 pub fn play<C: Calls>(
@@ -64,7 +65,7 @@ impl<C: Calls> Table<'_, C> {
         let expected = ask(&mut self.reading, call);
         let answered = ask(self.tested, call);
         let chosen = match call {
-            Call::Open(opening) => (opening.mode, opening.rule),
+            Call::Open(opening) => opening.chosen(),
             _ => self.chosen(),
         };
         self.figures
@@ -72,10 +73,9 @@ impl<C: Calls> Table<'_, C> {
         compared(call, expected, answered)
     }
 
-    /// Mode and rule; with nothing open there are none.
-    fn chosen(&self) -> (u64, u64) {
+    fn chosen(&self) -> Chosen {
         let record = self.reading.record.as_ref();
-        record.map_or((0, 0), |it| (it.opening.mode, it.opening.rule))
+        record.map_or(Chosen::NOTHING, |it| it.opening.chosen())
     }
 
     fn renew_claims(&mut self) {

@@ -4,6 +4,7 @@ use std::fmt;
 
 use crate::frames::{Dates, PolyOpening, Request, Window};
 use crate::trial::Spoken;
+use crate::trial::choices::Chosen;
 use crate::trial::words::{Asked, Sent, Spans};
 
 /// The modes there are: the ported capacity, and the true integral.
@@ -19,7 +20,28 @@ pub struct Opening {
     pub mode: u64,
     /// Of the delays (R-4).
     pub rule: u64,
+    /// The flag (R-7).
+    pub strict: u64,
     pub contact: PolyOpening,
+}
+
+impl Opening {
+    pub fn of(chosen: Chosen, contact: PolyOpening) -> Self {
+        Opening {
+            mode: chosen.kind,
+            rule: chosen.rule,
+            strict: chosen.strict,
+            contact,
+        }
+    }
+
+    pub fn chosen(&self) -> Chosen {
+        Chosen {
+            kind: self.mode,
+            rule: self.rule,
+            strict: self.strict,
+        }
+    }
 }
 
 /// What can be written over a record's own.
@@ -27,6 +49,7 @@ pub struct Opening {
 pub enum Field {
     Mode(u64),
     Rule(u64),
+    Strict(u64),
     Offset(i64),
     /// By its power.
     Coefficient(usize, i64),
@@ -37,6 +60,7 @@ impl Field {
         match self {
             Field::Mode(mode) => opening.mode = mode,
             Field::Rule(rule) => opening.rule = rule,
+            Field::Strict(strict) => opening.strict = strict,
             Field::Offset(offset) => opening.contact.offset = offset,
             Field::Coefficient(power, number) => opening.contact.coefficients[power] = number,
         }
@@ -87,11 +111,12 @@ impl fmt::Display for Opening {
             coefficients: [c0, c1, c2, c3],
             delays,
         } = &self.contact;
-        let (mode, rule, delays) = (self.mode, self.rule, Spans(delays));
+        let (mode, rule, strict) = (self.mode, self.rule, self.strict);
+        let delays = Spans(delays);
         write!(
             text,
-            "mode {mode}, rule {rule}, window [{start},{end}); offset {offset}, \
-             coefficients {c0},{c1},{c2},{c3}; delays {delays}",
+            "mode {mode}, rule {rule}, strict {strict}, window [{start},{end}); \
+             offset {offset}, coefficients {c0},{c1},{c2},{c3}; delays {delays}",
         )
     }
 }
@@ -101,6 +126,7 @@ impl fmt::Display for Field {
         match self {
             Field::Mode(mode) => write!(text, "mode {mode}"),
             Field::Rule(rule) => write!(text, "rule {rule}"),
+            Field::Strict(strict) => write!(text, "strict {strict}"),
             Field::Offset(offset) => write!(text, "offset {offset}"),
             Field::Coefficient(power, number) => write!(text, "coefficient {power}: {number}"),
         }

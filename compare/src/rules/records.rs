@@ -1,4 +1,5 @@
-//! Rule 2 behind the frames: the readings' records of edition 1 and mode 1.
+//! Rule 2 behind the frames: the readings' records of edition 1 and mode 1, with
+//! the strict flag off, as no frame names it.
 
 use crate::editions::reading as rated;
 use crate::editions::terms::{FIRST, Manager, Opening as RatedChoice};
@@ -7,6 +8,7 @@ use crate::modes::reading as poly;
 use crate::modes::terms::{Opening as PolyChoice, PORTED};
 use crate::refusal::Refusal;
 use crate::state::{Opened, Record};
+use crate::strict::flag::OFF;
 
 use super::LATER;
 
@@ -22,6 +24,7 @@ fn open_rated(manager: Manager, contact: &RatedOpening) -> Opened {
     let opening = RatedChoice {
         edition: FIRST,
         rule: LATER,
+        strict: OFF,
         contact: contact.clone(),
     };
     match rated::opening::refusal(&opening) {
@@ -34,6 +37,7 @@ fn open_poly(contact: &PolyOpening) -> Opened {
     let opening = PolyChoice {
         mode: PORTED,
         rule: LATER,
+        strict: OFF,
         contact: contact.clone(),
     };
     match poly::opening::refusal(&opening) {

@@ -12,6 +12,8 @@ pub enum Said {
     Number(u8),
     Offer(Dates),
     Listed(Vec<Span>),
+    /// Each class's queue.
+    Queued(Vec<i64>),
     Room(i64),
 }
 
@@ -84,6 +86,7 @@ impl fmt::Display for Said {
             Said::Number(number) => write!(text, "{number}"),
             Said::Offer(dates) => write!(text, "0, {}", Sent(*dates)),
             Said::Listed(listed) => write!(text, "0, {}", Spans(listed)),
+            Said::Queued(queues) => write!(text, "0, queues {queues:?}"),
             Said::Room(room) => write!(text, "0, room {room}"),
         }
     }

@@ -6,6 +6,7 @@ use oracle::editions::reading::Reading;
 use oracle::editions::terms::{FIRST, SECOND};
 use oracle::editions::{Settings, check};
 use oracle::rules::{EARLIER, LATER};
+use oracle::trial::choices::Flag;
 
 #[test]
 fn every_outcome_is_met_in_both_editions() {
@@ -65,12 +66,42 @@ fn every_outcome_is_met_under_both_rules() {
             }
         }
     }
-    assert!(figures.answered_under(0, Sort::Opening, 2) > 500);
+    assert!(figures.answered_under(0, Sort::Opening, 2) > 300);
     for sort in [Sort::DryRun, Sort::Booking, Sort::List, Sort::Room] {
         assert!(figures.answered_under(0, sort, 1) > 100, "{sort:?}");
     }
     assert!(figures.apart_by_rule > 2_000);
     assert!(3 * figures.calls_under(LATER) > 4 * figures.calls_under(EARLIER));
+}
+
+/// Half of what is opened is strict, and a small bundle is refused there.
+#[test]
+fn every_outcome_is_met_with_either_flag() {
+    let settings = Settings {
+        calls: 200_000,
+        seed: 54,
+        editions: Editions::Both,
+    };
+    let figures = check(&settings, Reading::of).figures;
+    for flag in [Flag::Off, Flag::On] {
+        assert!(3 * figures.calls_with(flag) > settings.calls, "{flag:?}");
+        for (sort, numbers) in [
+            (Sort::DryRun, &[0, 1, 2, 7][..]),
+            (Sort::Booking, &[0, 1, 2, 9, 10]),
+            (Sort::Write, &[0, 1]),
+        ] {
+            for number in numbers {
+                let count = figures.answered_with(flag, sort, *number);
+                assert!(count > 50, "{flag:?} {sort:?} {number}: {count}");
+            }
+        }
+    }
+    assert!(figures.answered_with(Flag::On, Sort::Booking, 17) > 500);
+    assert_eq!(figures.answered_with(Flag::Off, Sort::Booking, 17), 0);
+    assert!(figures.answered_with(Flag::None, Sort::Opening, 2) > 500);
+    for sort in [Sort::DryRun, Sort::Booking, Sort::List, Sort::Room] {
+        assert!(figures.answered_with(Flag::None, sort, 1) > 100, "{sort:?}");
+    }
 }
 
 #[test]

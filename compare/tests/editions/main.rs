@@ -16,12 +16,14 @@ use oracle::editions::terms::Opening;
 use oracle::frames::{RatedOpening, Span};
 use oracle::rules::EARLIER;
 use oracle::stated::{contact_a, spans_of};
+use oracle::strict::flag::OFF;
 
-/// Any contact in this edition, under rule 1.
+/// Any contact in this edition, under rule 1 and with the flag off.
 fn opening_of(edition: u64, contact: RatedOpening) -> Opening {
     Opening {
         edition,
         rule: EARLIER,
+        strict: OFF,
         contact,
     }
 }

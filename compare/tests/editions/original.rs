@@ -1,4 +1,4 @@
-//! The reading under edition 1 and rule 1 is the original.
+//! The reading under edition 1 and rule 1, with the flag off, is the original.
 
 use oracle::Oracle;
 use oracle::editions::calls::Calls;
@@ -8,6 +8,7 @@ use oracle::editions::{Settings, check};
 use oracle::frames::{Content, Dates, Frame, Request, Span};
 use oracle::refusal::Refusal;
 use oracle::rules::EARLIER;
+use oracle::strict::flag::OFF;
 
 /// `EDITION_CALLS` asks for more.
 const CALLS: usize = 120_000;
@@ -20,7 +21,7 @@ fn calls_asked() -> usize {
 }
 
 /// The original behind the calls, opened with its rule stated; it has no other
-/// edition or rule.
+/// edition or rule, and no flag.
 struct Original {
     manager: Manager,
     oracle: Oracle,
@@ -42,6 +43,7 @@ impl Original {
 impl Calls for Original {
     fn open(&mut self, opening: &Opening) -> Result<(), u8> {
         assert_eq!((opening.edition, opening.rule), (FIRST, EARLIER));
+        assert_eq!(opening.strict, OFF);
         let contact = opening.contact.clone();
         let frame = match self.manager {
             Manager::Free => Frame::OpenFree(contact),

@@ -6,6 +6,7 @@ use oracle::modes::reading::Reading;
 use oracle::modes::terms::{EXACT, PORTED};
 use oracle::modes::{Settings, check};
 use oracle::rules::{EARLIER, LATER};
+use oracle::trial::choices::Flag;
 
 #[test]
 fn every_outcome_is_met_in_both_modes() {
@@ -32,7 +33,7 @@ fn every_outcome_is_met_in_both_modes() {
             }
         }
     }
-    assert!(figures.answered(0, Sort::Opening, 2) > 1_000);
+    assert!(figures.answered(0, Sort::Opening, 2) > 600);
     for sort in [Sort::DryRun, Sort::Booking, Sort::List, Sort::Write] {
         assert!(figures.answered(0, sort, 1) > 500, "{sort:?}");
     }
@@ -67,12 +68,41 @@ fn every_outcome_is_met_under_both_rules() {
     assert!(figures.answered_under(EARLIER, Sort::DryRun, 8) > 100);
     assert_eq!(figures.answered_under(LATER, Sort::DryRun, 8), 0);
     assert!(figures.answered_under(LATER, Sort::Opening, 5) > 1_000);
-    assert!(figures.answered_under(0, Sort::Opening, 2) > 1_000);
+    assert!(figures.answered_under(0, Sort::Opening, 2) > 600);
     for sort in [Sort::DryRun, Sort::Booking, Sort::List, Sort::Write] {
         assert!(figures.answered_under(0, sort, 1) > 500, "{sort:?}");
     }
     assert!(figures.apart_by_rule > 3_000);
     assert!(figures.calls_under(LATER) > figures.calls_under(EARLIER));
+}
+
+/// Half of what is opened is strict; no send of a polynomial is refused there.
+#[test]
+fn every_outcome_is_met_with_either_flag() {
+    let settings = Settings {
+        calls: 200_000,
+        seed: 65,
+        modes: Modes::Both,
+    };
+    let figures = check(&settings, Reading::default).figures;
+    for flag in [Flag::Off, Flag::On] {
+        assert!(3 * figures.calls_with(flag) > settings.calls, "{flag:?}");
+        for (sort, numbers) in [
+            (Sort::DryRun, &[0, 1, 2, 7, 8][..]),
+            (Sort::Booking, &[0, 1, 2, 9, 10]),
+            (Sort::Write, &[0, 1]),
+        ] {
+            for number in numbers {
+                let count = figures.answered_with(flag, sort, *number);
+                assert!(count > 50, "{flag:?} {sort:?} {number}: {count}");
+            }
+        }
+        assert_eq!(figures.answered_with(flag, Sort::Booking, 17), 0);
+    }
+    assert!(figures.answered_with(Flag::None, Sort::Opening, 2) > 500);
+    for sort in [Sort::DryRun, Sort::Booking, Sort::List, Sort::Write] {
+        assert!(figures.answered_with(Flag::None, sort, 1) > 200, "{sort:?}");
+    }
 }
 
 /// Each of R-6's claims is held often.

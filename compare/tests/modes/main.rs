@@ -19,12 +19,15 @@ use oracle::modes::reading::Reading;
 use oracle::modes::terms::Opening;
 use oracle::rules::EARLIER;
 use oracle::stated::poly_a;
+use oracle::strict::flag::OFF;
 
-/// Case 10's contact with these coefficients, in this mode and under rule 1.
+/// Case 10's contact with these coefficients, in this mode, under rule 1 and with the
+/// flag off.
 fn opening_a(mode: u64, coefficients: [i64; 4]) -> Opening {
     Opening {
         mode,
         rule: EARLIER,
+        strict: OFF,
         contact: PolyOpening {
             coefficients,
             ..poly_a()

@@ -1,4 +1,4 @@
-//! The reading in mode 1 and under rule 1 is the original.
+//! The reading in mode 1 and under rule 1, with the flag off, is the original.
 
 use oracle::Oracle;
 use oracle::frames::{Content, Dates, Frame, Request, Span};
@@ -8,6 +8,7 @@ use oracle::modes::terms::{Field, Opening, PORTED};
 use oracle::modes::{Settings, check};
 use oracle::refusal::Refusal;
 use oracle::rules::EARLIER;
+use oracle::strict::flag::OFF;
 
 /// `MODE_CALLS` asks for more.
 const CALLS: usize = 250_000;
@@ -20,7 +21,7 @@ fn calls_asked() -> usize {
 }
 
 /// The original behind the calls, opened with its rule stated; it has no other
-/// mode or rule.
+/// mode or rule, and no flag.
 #[derive(Default)]
 struct Original(Oracle);
 
@@ -33,6 +34,7 @@ impl Original {
 impl Calls for Original {
     fn open(&mut self, opening: &Opening) -> Result<(), u8> {
         assert_eq!((opening.mode, opening.rule), (PORTED, EARLIER));
+        assert_eq!(opening.strict, OFF);
         let frame = Frame::OpenPoly(opening.contact.clone());
         self.answer(&frame.ruled(EARLIER as u8)).map(drop)
     }

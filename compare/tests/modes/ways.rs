@@ -11,6 +11,7 @@ use oracle::modes::reading::opening::refusal;
 use oracle::modes::terms::{Call, EXACT, Opening};
 use oracle::modes::ticks::Ticks;
 use oracle::rules::EARLIER;
+use oracle::strict::flag::OFF;
 
 const POLYNOMIALS: usize = 3_000;
 
@@ -27,6 +28,7 @@ fn random(rng: &mut Rng, most: i64) -> Opening {
     Opening {
         mode: EXACT,
         rule: EARLIER,
+        strict: OFF,
         contact: PolyOpening {
             window,
             offset: near.min(1 << 40),

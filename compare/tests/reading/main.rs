@@ -32,7 +32,7 @@ fn open(frame: &Frame) -> Option<Box<dyn Reading>> {
         Frame::OpenFree(opening) => Box::new(ticks::Free::open(opening)),
         Frame::OpenPriority(opening) => Box::new(ticks::Priority::open(opening)),
         Frame::OpenPoly(opening) => Box::new(ticks::Poly::open(opening)),
-        Frame::OpenQueue(opening) => Box::new(queues::Queue::open(opening)),
+        Frame::OpenQueue(opening) => Box::new(queues::open(opening)),
         _ => return None,
     })
 }

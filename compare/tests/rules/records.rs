@@ -12,6 +12,7 @@ use oracle::modes::reading::Reading as Poly;
 use oracle::modes::terms::{EXACT, Field as PolyField, Opening as PolyOpened, PORTED};
 use oracle::rules::{EARLIER, LATER};
 use oracle::stated::{contact_a, poly_a, request, spans_of};
+use oracle::strict::flag::OFF;
 
 fn case_7() -> Vec<Span> {
     spans_of([(0, 4, 10), (4, 10, 2)])
@@ -26,6 +27,7 @@ fn rated(manager: Manager, edition: u64, rule: u64) -> Rated {
     let opening = RatedOpened {
         edition,
         rule,
+        strict: OFF,
         contact,
     };
     assert_eq!(reading.open(&opening), Ok(()));
@@ -36,6 +38,7 @@ fn poly_opening(mode: u64, rule: u64, delays: Vec<Span>) -> PolyOpened {
     PolyOpened {
         mode,
         rule,
+        strict: OFF,
         contact: PolyOpening { delays, ..poly_a() },
     }
 }
@@ -144,6 +147,7 @@ fn a_rule_that_is_none_is_2_before_all_else() {
             let opening = RatedOpened {
                 edition,
                 rule,
+                strict: OFF,
                 contact,
             };
             assert_eq!(Rated::of(Manager::Priority).open(&opening), Err(2));

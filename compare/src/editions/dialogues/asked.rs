@@ -59,13 +59,13 @@ pub fn inner_request(rng: &mut Rng, record: &Record) -> Option<Request> {
     })
 }
 
-fn listed(rng: &mut Rng, record: &Record) -> Span {
+pub fn listed(rng: &mut Rng, record: &Record) -> Span {
     rng.pick(&record.list)
 }
 
 /// Before, in, at the end of and after the window, where a delay changes, and
 /// about the list's edges.
-fn time(rng: &mut Rng, record: &Record) -> i64 {
+pub fn time(rng: &mut Rng, record: &Record) -> i64 {
     let Window { start, end } = record.window;
     let time = match rng.below(20) {
         0 => rng.pick(&[0, MAX_DATE - 1, MAX_DATE]),
@@ -125,14 +125,14 @@ fn few_ticks(rng: &mut Rng, record: &Record, from: i64) -> i64 {
 }
 
 /// The exact capacity of what of [from, to) is in the window.
-fn carried(record: &Record, from: i64, to: i64) -> i64 {
+pub fn carried(record: &Record, from: i64, to: i64) -> i64 {
     let Window { start, end } = record.window;
     let (from, to) = (from.clamp(start, end), to.clamp(start, end));
     record.capacity.between(from, to) as i64
 }
 
 /// Few distinct ones, so that some are in each other's way.
-fn priority(rng: &mut Rng) -> u8 {
+pub fn priority(rng: &mut Rng) -> u8 {
     match rng.below(12) {
         0 => MAX_PRIORITY,
         1 => rng.below(usize::from(MAX_PRIORITY) + 1) as u8,

@@ -1,22 +1,25 @@
 //! Random dialogues from a seed.
 
-mod asked;
-mod contacts;
+pub(crate) mod asked;
+pub(crate) mod contacts;
 mod talk;
-mod wrong;
+pub(crate) mod wrong;
 
 use super::terms::{Dialogue, FIRST, Manager, SECOND};
 use crate::generate::rng::Rng;
 use crate::rules::EARLIER;
-use crate::trial::choices;
+use crate::strict::flag::OFF;
+use crate::trial::choices::{self, Chosen};
 use talk::Talk;
 
-/// Which editions and rules are chosen.
+/// Which editions, rules and flags are chosen.
 #[derive(Clone, Copy, Debug, PartialEq, Eq)]
 pub enum Editions {
-    /// Mostly edition 2 and rule 2, and now and then one that is none.
+    /// Mostly edition 2 and rule 2, half of them strict, and now and then one that
+    /// is none.
     Both,
-    /// Edition 1 and rule 1 alone: there is an original to compare with.
+    /// Edition 1 and rule 1 alone, the flag off: there is an original to compare
+    /// with.
     First,
 }
 
@@ -24,16 +27,23 @@ pub enum Editions {
 const FIRST_SHARE: usize = 4;
 
 impl Editions {
-    /// An edition and a rule.
-    fn pick(self, rng: &mut Rng) -> (u64, u64) {
+    fn pick(self, rng: &mut Rng) -> Chosen {
         if self == Editions::First {
-            return (FIRST, EARLIER);
+            return Chosen {
+                kind: FIRST,
+                rule: EARLIER,
+                strict: OFF,
+            };
         }
-        let edition = match rng.once_in(FIRST_SHARE) {
+        let kind = match rng.once_in(FIRST_SHARE) {
             true => FIRST,
             false => SECOND,
         };
-        (edition, choices::rule(rng))
+        Chosen {
+            kind,
+            rule: choices::rule(rng),
+            strict: choices::strict(rng),
+        }
     }
 }
 

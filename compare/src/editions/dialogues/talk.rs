@@ -10,6 +10,7 @@ use crate::frames::{Dates, Request};
 use crate::generate::rng::Rng;
 use crate::limits::MAX_LISTED;
 use crate::rules;
+use crate::strict::flag;
 use crate::trial::choices;
 use crate::trial::offers::Offers;
 use crate::trial::scales::{self, Scale};
@@ -111,13 +112,9 @@ impl<'a> Talk<'a> {
 
     fn open(&mut self) {
         let scale = scales::scale(self.rng);
-        let (edition, rule) = self.editions.pick(self.rng);
-        let opening = Opening {
-            edition,
-            rule,
-            contact: contacts::contact(self.rng, scale),
-        };
-        self.ask(Call::Open(opening));
+        let chosen = self.editions.pick(self.rng);
+        let contact = contacts::contact(self.rng, scale);
+        self.ask(Call::Open(Opening::of(chosen, contact)));
         self.offers.clear();
         let is_long = matches!(scale, Scale::Roomy | Scale::Limit);
         if scale == Scale::Roomy || is_long && self.rng.once_in(12) {
@@ -125,7 +122,7 @@ impl<'a> Talk<'a> {
         }
     }
 
-    /// A wrong edition or rule over any contact, or right ones over a wrong
+    /// A wrong edition, rule or flag over any contact, or right ones over a wrong
     /// contact.
     fn open_wrongly(&mut self) {
         let scale = scales::scale(self.rng);
@@ -135,16 +132,12 @@ impl<'a> Talk<'a> {
             wrong::spoil(self.rng, &mut contact);
         }
         let picked = self.editions.pick(self.rng);
-        let (edition, rule) = match has_choices {
+        let chosen = match has_choices {
             true => picked,
             false => choices::spoiled(self.rng, picked),
         };
         // Faults may cancel, and then the record is a new one.
-        self.ask(Call::Open(Opening {
-            edition,
-            rule,
-            contact,
-        }));
+        self.ask(Call::Open(Opening::of(chosen, contact)));
     }
 
     /// Up to 64 listed segments, and on to the refusal of a 65th.
@@ -186,18 +179,21 @@ impl<'a> Talk<'a> {
     }
 
     // -----------------------------------------------------------------------
-    // Editions and rules in records
+    // Editions, rules and flags in records
 
-    /// A record whose edition or rule is none refuses every call with 1, bundles
+    /// A record whose edition, rule or flag is none refuses every call with 1, bundles
     /// outside their limits too, and is as it was when its own is put back.
     fn damage(&mut self) {
         if self.editions == Editions::First {
             return self.dry_run();
         }
-        let none = choices::none(self.rng);
-        let (damage, whole) = match self.rng.once_in(2) {
-            true => (Field::Edition(none), Field::Edition(self.record().edition)),
-            false => (Field::Rule(none), Field::Rule(self.record().rule)),
+        let (none, no_flag) = (choices::none(self.rng), choices::no_flag(self.rng));
+        let which = self.rng.below(3);
+        let record = self.record();
+        let (damage, whole) = match which {
+            0 => (Field::Edition(none), Field::Edition(record.edition)),
+            1 => (Field::Rule(none), Field::Rule(record.rule)),
+            _ => (Field::Strict(no_flag), Field::Strict(record.strict)),
         };
         let request = self.request();
         let offer = self.offered(request).unwrap_or(Dates([0; 4]));
@@ -209,14 +205,17 @@ impl<'a> Talk<'a> {
         self.ask(Call::Write(whole));
     }
 
-    /// The other edition or rule from now on; or another contact.
+    /// The other edition, rule or flag from now on; or another contact.
     fn change(&mut self) {
         if self.editions == Editions::First || self.rng.once_in(2) {
             return self.open();
         }
-        let other = match self.rng.once_in(2) {
-            true => Field::Edition(FIRST + SECOND - self.record().edition),
-            false => Field::Rule(rules::other(self.record().rule)),
+        let which = self.rng.below(3);
+        let record = self.record();
+        let other = match which {
+            0 => Field::Edition(FIRST + SECOND - record.edition),
+            1 => Field::Rule(rules::other(record.rule)),
+            _ => Field::Strict(flag::other(record.strict)),
         };
         self.ask(Call::Write(other));
     }

@@ -1,5 +1,5 @@
-//! Document 01 with R-5's editions and R-4's rules, read from the documents' words
-//! alone.
+//! Document 01 with R-5's editions, R-4's rules and R-7's flag, read from the
+//! documents' words alone.
 
 pub mod capacity;
 mod free;
@@ -12,6 +12,7 @@ use super::terms::{Field, Manager, Opening};
 use crate::frames::{Dates, Request, Span};
 use record::Record;
 
+#[derive(Clone)]
 pub struct Reading {
     manager: Manager,
     pub record: Option<Record>,
@@ -29,7 +30,7 @@ impl Reading {
         self.record.as_mut().ok_or(1)
     }
 
-    /// A record that is open and names an edition and a rule there are.
+    /// A record that is open and names an edition, a rule and a flag there are.
     fn whole_record(&mut self) -> Result<&Record, u8> {
         let record = self.open_record()?;
         record.test_choices()?;
@@ -69,6 +70,7 @@ impl Calls for Reading {
         match field {
             Field::Edition(edition) => record.edition = edition,
             Field::Rule(rule) => record.rule = rule,
+            Field::Strict(strict) => record.strict = strict,
         }
         record.test_choices()
     }

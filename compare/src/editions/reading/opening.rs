@@ -1,15 +1,16 @@
-//! Which openings are refused, and with which number: R-5's and R-4's 2 "before
-//! all else", then document 01's 3, 4, 6, 5.
+//! Which openings are refused, and with which number: R-5's, R-4's and R-7's 2
+//! before all else, then document 01's 3, 4, 6, 5.
 
 use crate::editions::terms::{Opening, is_edition};
 use crate::frames::{Span, Window};
 use crate::limits::{MAX_DATE, MAX_LENGTH, MAX_RATE, MAX_RATES, MAX_VOLUME};
 use crate::rules::cover::{covers, delays_cover};
 use crate::rules::is_rule;
+use crate::strict::flag::is_flag;
 
 pub fn refusal(opening: &Opening) -> Option<u8> {
     let contact = &opening.contact;
-    if !is_edition(opening.edition) || !is_rule(opening.rule) {
+    if !is_edition(opening.edition) || !is_rule(opening.rule) || !is_flag(opening.strict) {
         return Some(2);
     }
     if !window_in_limits(contact.window) {
@@ -27,7 +28,7 @@ pub fn refusal(opening: &Opening) -> Option<u8> {
     None
 }
 
-fn window_in_limits(window: Window) -> bool {
+pub fn window_in_limits(window: Window) -> bool {
     let dates = 0..=MAX_DATE;
     dates.contains(&window.start)
         && dates.contains(&window.end)

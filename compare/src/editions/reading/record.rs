@@ -4,9 +4,12 @@ use super::capacity::Capacity;
 use super::{free, priority};
 use crate::editions::terms::{FIRST, Manager, Opening, is_edition};
 use crate::frames::{Dates, Load, Request, Span, Window};
-use crate::limits::{MAX_DATE, MAX_LISTED, MAX_PRIORITY, MAX_SIZE};
+use crate::limits::MAX_LISTED;
+use crate::modes::reading::record::test_request;
 use crate::rules::is_rule;
 use crate::rules::lookup::Delays;
+use crate::strict::flag;
+use crate::trial::choices::Chosen;
 
 /// The listed value of what is not booked.
 const NOT_BOOKED: i64 = -1;
@@ -24,6 +27,7 @@ pub struct Record {
     pub manager: Manager,
     pub edition: u64,
     pub rule: u64,
+    pub strict: u64,
     pub window: Window,
     pub capacity: Capacity,
     pub delays: Vec<Span>,
@@ -44,10 +48,19 @@ impl Record {
             manager,
             edition: opening.edition,
             rule: opening.rule,
+            strict: opening.strict,
             window,
             capacity,
             delays: opening.contact.delays.clone(),
             list: vec![Span { start, end, value }],
+        }
+    }
+
+    pub fn chosen(&self) -> Chosen {
+        Chosen {
+            kind: self.edition,
+            rule: self.rule,
+            strict: self.strict,
         }
     }
 
@@ -74,6 +87,7 @@ impl Record {
         if self.dry_run(request) != Ok(stated) {
             return Err(9);
         }
+        flag::test(self.strict, stated)?;
         let send = self.find(request).ok_or(9)?;
         let list = self.cut(send, request.load);
         if list.len() > MAX_LISTED {
@@ -88,22 +102,16 @@ impl Record {
         self.list.iter().map(|span| span.value).sum()
     }
 
-    /// 1 before 2. Only the edition and the rule of a record can be wrong here.
+    /// 1 before 2. Only what a record was opened to choose can be wrong here.
     pub fn test(&self, request: Request) -> Result<(), u8> {
         self.test_choices()?;
-        let Request { time, load } = request;
-        let in_limits = (0..=MAX_DATE).contains(&time)
-            && (1..=MAX_SIZE).contains(&load.size)
-            && load.priority <= MAX_PRIORITY;
-        if in_limits { Ok(()) } else { Err(2) }
+        test_request(request)
     }
 
     pub fn test_choices(&self) -> Result<(), u8> {
-        if is_edition(self.edition) && is_rule(self.rule) {
-            Ok(())
-        } else {
-            Err(1)
-        }
+        let are_there =
+            is_edition(self.edition) && is_rule(self.rule) && flag::is_flag(self.strict);
+        if are_there { Ok(()) } else { Err(1) }
     }
 
     pub fn find(&self, request: Request) -> Option<Send> {

@@ -8,6 +8,7 @@ use crate::limits::{MAX_COEFFICIENT, MAX_DATE, MAX_DELAYS, MAX_RATE, MAX_RATES, 
 use crate::modes::reading::capacity::Capacity;
 use crate::modes::terms::{Opening, PORTED};
 use crate::rules::{EARLIER, LATER};
+use crate::strict::flag::OFF;
 
 /// Of so many openings one is under rule 1.
 const EARLIER_SHARE: usize = 3;
@@ -61,6 +62,7 @@ fn polynomial(contact: &PolyOpening, from: i64, to: i64) -> i64 {
     let capacity = Capacity::of(&Opening {
         mode: PORTED,
         rule: EARLIER,
+        strict: OFF,
         contact: contact.clone(),
     });
     let carried = capacity.between(from, to).floor();

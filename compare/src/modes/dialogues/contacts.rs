@@ -7,13 +7,11 @@ use crate::generate::rng::Rng;
 use crate::generate::ruled::contacts::nearly_covering;
 use crate::limits::{MAX_DATE, MAX_DELAYS};
 use crate::modes::terms::Opening;
+use crate::trial::choices::Chosen;
 use crate::trial::scales::{Scale, length};
 
 /// Of so many openings one has a polynomial at the range rule's limit.
 const LIMIT_SHARE: usize = 6;
-
-/// A mode and a rule.
-type Chosen = (u64, u64);
 
 pub fn opening(rng: &mut Rng, chosen: Chosen, scale: Scale) -> Opening {
     if scale != Scale::Roomy && rng.once_in(LIMIT_SHARE) {
@@ -52,17 +50,14 @@ fn beside(rng: &mut Rng, most: i64) -> (Window, i64) {
     (window, rng.pick(&[start, end, inside]))
 }
 
-fn bare(rng: &mut Rng, (mode, rule): Chosen, window: Window, offset: i64) -> Opening {
-    Opening {
-        mode,
-        rule,
-        contact: PolyOpening {
-            window,
-            offset,
-            coefficients: [0; COEFFICIENTS],
-            delays: delays(rng, window),
-        },
-    }
+fn bare(rng: &mut Rng, chosen: Chosen, window: Window, offset: i64) -> Opening {
+    let contact = PolyOpening {
+        window,
+        offset,
+        coefficients: [0; COEFFICIENTS],
+        delays: delays(rng, window),
+    };
+    Opening::of(chosen, contact)
 }
 
 fn window(rng: &mut Rng, scale: Scale) -> Window {

@@ -1,23 +1,25 @@
 //! Random dialogues from a seed.
 
-mod asked;
-mod contacts;
+pub(crate) mod asked;
+pub(crate) mod contacts;
 mod shapes;
 mod talk;
-mod wrong;
+pub(crate) mod wrong;
 
 use super::terms::{Dialogue, EXACT, PORTED};
 use crate::generate::rng::Rng;
 use crate::rules::EARLIER;
-use crate::trial::choices;
+use crate::strict::flag::OFF;
+use crate::trial::choices::{self, Chosen};
 use talk::Talk;
 
-/// Which modes and rules are chosen.
+/// Which modes, rules and flags are chosen.
 #[derive(Clone, Copy, Debug, PartialEq, Eq)]
 pub enum Modes {
-    /// Mostly mode 2 and rule 2, and now and then one that is none.
+    /// Mostly mode 2 and rule 2, half of them strict, and now and then one that is
+    /// none.
     Both,
-    /// Mode 1 and rule 1 alone: there is an original to compare with.
+    /// Mode 1 and rule 1 alone, the flag off: there is an original to compare with.
     Ported,
 }
 
@@ -25,16 +27,23 @@ pub enum Modes {
 const PORTED_SHARE: usize = 4;
 
 impl Modes {
-    /// A mode and a rule.
-    fn pick(self, rng: &mut Rng) -> (u64, u64) {
+    fn pick(self, rng: &mut Rng) -> Chosen {
         if self == Modes::Ported {
-            return (PORTED, EARLIER);
+            return Chosen {
+                kind: PORTED,
+                rule: EARLIER,
+                strict: OFF,
+            };
         }
-        let mode = match rng.once_in(PORTED_SHARE) {
+        let kind = match rng.once_in(PORTED_SHARE) {
             true => PORTED,
             false => EXACT,
         };
-        (mode, choices::rule(rng))
+        Chosen {
+            kind,
+            rule: choices::rule(rng),
+            strict: choices::strict(rng),
+        }
     }
 }
 

@@ -10,6 +10,7 @@ use crate::modes::reading::Reading;
 use crate::modes::reading::record::Record;
 use crate::modes::terms::{Call, Dialogue, EXACT, Field, Opening, PORTED};
 use crate::rules;
+use crate::strict::flag;
 use crate::trial::offers::Offers;
 use crate::trial::scales::{self, Scale};
 use crate::trial::{altered, choices};
@@ -130,7 +131,7 @@ impl<'a> Talk<'a> {
         }
     }
 
-    /// A wrong mode or rule over any contact, or right ones over a wrong contact.
+    /// A wrong mode, rule or flag over any contact, or right ones over a wrong contact.
     fn open_wrongly(&mut self) {
         let has_choices = self.modes == Modes::Ported || !self.rng.once_in(3);
         let picked = self.modes.pick(self.rng);
@@ -139,16 +140,12 @@ impl<'a> Talk<'a> {
         if has_choices || self.rng.once_in(2) {
             wrong::spoil(self.rng, &mut contact);
         }
-        let (mode, rule) = match has_choices {
+        let chosen = match has_choices {
             true => picked,
             false => choices::spoiled(self.rng, picked),
         };
         // Faults may cancel, and then the record is a new one.
-        self.ask(Call::Open(Opening {
-            mode,
-            rule,
-            contact,
-        }));
+        self.ask(Call::Open(Opening::of(chosen, contact)));
     }
 
     /// Up to 64 listed segments, and on to the refusal of a 65th.
@@ -197,21 +194,22 @@ impl<'a> Talk<'a> {
     // -----------------------------------------------------------------------
     // Numbers written into records
 
-    /// A mode or a rule that is none.
+    /// A mode, a rule or a flag that is none.
     fn damage(&mut self) {
         if self.modes == Modes::Ported {
             return self.dry_run();
         }
         let none = choices::none(self.rng);
-        let field = match self.rng.once_in(2) {
-            true => Field::Mode(none),
-            false => Field::Rule(none),
+        let field = match self.rng.below(3) {
+            0 => Field::Mode(none),
+            1 => Field::Rule(none),
+            _ => Field::Strict(choices::no_flag(self.rng)),
         };
         self.write(field);
     }
 
-    /// The other mode or rule, or another number of the polynomial. Delays that
-    /// do not cover are no list of rule 2.
+    /// The other mode, rule or flag, or another number of the polynomial. Delays
+    /// that do not cover are no list of rule 2.
     fn change(&mut self) {
         if self.modes == Modes::Ported {
             return self.dry_run();
@@ -222,9 +220,10 @@ impl<'a> Talk<'a> {
             false => EXACT,
         };
         let opening = opening.clone();
-        let field = match self.rng.below(6) {
+        let field = match self.rng.below(7) {
             0..2 => Field::Mode(other),
             2..4 => Field::Rule(rules::other(opening.rule)),
+            4 => Field::Strict(flag::other(opening.strict)),
             _ => wrong::number(self.rng, &opening),
         };
         self.write(field);

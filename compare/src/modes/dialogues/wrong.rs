@@ -108,6 +108,7 @@ pub fn old(field: Field, opening: &Opening) -> Field {
     match field {
         Field::Mode(_) => Field::Mode(opening.mode),
         Field::Rule(_) => Field::Rule(opening.rule),
+        Field::Strict(_) => Field::Strict(opening.strict),
         Field::Offset(_) => Field::Offset(contact.offset),
         Field::Coefficient(power, _) => Field::Coefficient(power, contact.coefficients[power]),
     }

@@ -1,5 +1,5 @@
-//! Document 01's polynomial manager with R-6's mode and R-4's rule, read from the
-//! documents' words alone.
+//! Document 01's polynomial manager with R-6's mode, R-4's rule and R-7's flag,
+//! read from the documents' words alone.
 
 pub mod capacity;
 pub mod fraction;
@@ -12,7 +12,7 @@ use super::terms::{Field, Opening};
 use crate::frames::{Dates, Request, Span};
 use record::Record;
 
-#[derive(Default)]
+#[derive(Clone, Default)]
 pub struct Reading {
     pub record: Option<Record>,
 }

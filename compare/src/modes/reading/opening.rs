@@ -1,16 +1,18 @@
-//! Which openings are refused, and with which number: 2 for a mode or a rule that
-//! is none before all else, then document 01's 3, 5, 11.
+//! Which openings are refused, and with which number: 2 for a mode, a rule or a
+//! flag that is none before all else, then document 01's 3, 5, 11.
 
 use super::fraction::Fraction;
+use crate::editions::reading::opening::window_in_limits;
 use crate::frames::{PolyOpening, Span, Window};
-use crate::limits::{MAX_CAPACITY, MAX_COEFFICIENT, MAX_DATE, MAX_DELAY, MAX_DELAYS, MAX_LENGTH};
+use crate::limits::{MAX_CAPACITY, MAX_COEFFICIENT, MAX_DATE, MAX_DELAY, MAX_DELAYS};
 use crate::modes::terms::{EXACT, Opening, is_mode};
 use crate::rules::cover::delays_cover;
 use crate::rules::{LATER, is_rule};
+use crate::strict::flag::is_flag;
 
 pub fn refusal(opening: &Opening) -> Option<u8> {
     let contact = &opening.contact;
-    if !is_mode(opening.mode) || !is_rule(opening.rule) {
+    if !is_mode(opening.mode) || !is_rule(opening.rule) || !is_flag(opening.strict) {
         return Some(2);
     }
     if !window_in_limits(contact.window) {
@@ -31,11 +33,6 @@ pub fn polynomial_fits(opening: &Opening) -> bool {
 
 fn is_date(number: i64) -> bool {
     (0..=MAX_DATE).contains(&number)
-}
-
-fn window_in_limits(window: Window) -> bool {
-    let Window { start, end } = window;
-    is_date(start) && is_date(end) && start < end && end - start <= MAX_LENGTH
 }
 
 /// Under rule 2 the list "must cover its window as the others' do, else 5".

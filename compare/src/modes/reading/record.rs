@@ -4,10 +4,11 @@ use super::capacity::Capacity;
 use super::fraction::Fraction;
 use super::opening;
 use super::search::{self, Stretch};
-use crate::frames::{Dates, Request, Span, Window};
+use crate::frames::{Dates, Load, Request, Span, Window};
 use crate::limits::{MAX_DATE, MAX_LISTED, MAX_PRIORITY, MAX_SIZE};
 use crate::modes::terms::Opening;
 use crate::rules::lookup::Delays;
+use crate::strict::flag;
 
 /// A send, and where in the list it begins.
 #[derive(Clone, Copy, Debug, PartialEq, Eq)]
@@ -17,7 +18,8 @@ pub struct Send {
     pub end: i64,
 }
 
-/// The record keeps what it was opened with, its mode and its rule first.
+/// The record keeps what it was opened with, its mode, its rule and its flag
+/// first.
 #[derive(Clone, Debug)]
 pub struct Record {
     pub opening: Opening,
@@ -55,6 +57,7 @@ impl Record {
         if self.dry_run(request) != Ok(stated) {
             return Err(9);
         }
+        flag::test(self.opening.strict, stated)?;
         let send = self.find(request).ok_or(9)?;
         let list = self.cut(send);
         if list.len() > MAX_LISTED {
@@ -134,9 +137,10 @@ fn bare(start: i64, end: i64) -> Span {
 }
 
 pub fn test_request(request: Request) -> Result<(), u8> {
-    let Request { time, load } = request;
-    let in_limits = (0..=MAX_DATE).contains(&time)
-        && (1..=MAX_SIZE).contains(&load.size)
-        && load.priority <= MAX_PRIORITY;
+    let in_limits = (0..=MAX_DATE).contains(&request.time) && load_in_limits(request.load);
     if in_limits { Ok(()) } else { Err(2) }
+}
+
+pub fn load_in_limits(load: Load) -> bool {
+    (1..=MAX_SIZE).contains(&load.size) && load.priority <= MAX_PRIORITY
 }

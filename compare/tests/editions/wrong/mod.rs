@@ -11,6 +11,7 @@ use oracle::editions::reading::record::{Record, Send};
 use oracle::editions::terms::{Field, Manager, Opening};
 use oracle::editions::{Settings, check};
 use oracle::frames::{Dates, Request, Span};
+use oracle::strict::flag;
 use oracle::trial::Counted;
 
 use crate::lookups::Lookup;
@@ -69,6 +70,7 @@ impl Calls for Wrong {
             return Err(9);
         }
         let record = records::read(self.flaw, self.record()?);
+        flag::test(record.strict, stated)?;
         let list = records::cut(self.flaw, &record, send, request.load);
         if list.len() > records::most_listed(self.flaw) {
             return Err(10);
@@ -97,6 +99,7 @@ impl Calls for Wrong {
         match field {
             Field::Edition(edition) => record.edition = edition,
             Field::Rule(rule) => record.rule = rule,
+            Field::Strict(strict) => record.strict = strict,
         }
         records::test_choices(self.flaw, &records::read(self.flaw, record))
     }

@@ -5,6 +5,7 @@ use oracle::editions::reading::record::{Record, Send};
 use oracle::editions::terms::{FIRST, Manager, Opening, SECOND, is_edition};
 use oracle::frames::{Load, Request, Span};
 use oracle::rules::{EARLIER, LATER, is_rule};
+use oracle::strict::flag::{OFF, is_flag};
 
 use super::flaw::Flaw;
 
@@ -23,25 +24,26 @@ pub fn opening(flaw: Flaw, opening: &Opening, manager: Manager) -> Result<Openin
         (Flaw::RuleLowByte, rule) => rule & 0xff,
         (_, rule) => rule,
     };
-    let contact = opening.contact.clone();
     let read = Opening {
         edition,
         rule,
-        contact,
+        ..opening.clone()
     };
+    let has_flag = is_flag(opening.strict);
     match (flaw, without_choices(&read)) {
-        (Flaw::TwoAfterThree, Some(3)) if is_rule(rule) => Err(3),
-        (Flaw::RuleAfterThree, Some(3)) if is_edition(edition) => Err(3),
+        (Flaw::TwoAfterThree, Some(3)) if is_rule(rule) && has_flag => Err(3),
+        (Flaw::RuleAfterThree, Some(3)) if is_edition(edition) && has_flag => Err(3),
         (Flaw::TwoLast, Some(number)) => Err(number),
         _ => Ok(read),
     }
 }
 
-/// What is wrong with an opening but for its edition and its rule.
+/// What is wrong with an opening but for its edition, its rule and its flag.
 fn without_choices(opening: &Opening) -> Option<u8> {
     refusal(&Opening {
         edition: FIRST,
         rule: EARLIER,
+        strict: OFF,
         ..opening.clone()
     })
 }
@@ -81,6 +83,7 @@ pub fn test(flaw: Flaw, record: &Record, request: Request) -> Result<(), u8> {
     let whole = Record {
         edition: FIRST,
         rule: EARLIER,
+        strict: OFF,
         ..record.clone()
     };
     if flaw == Flaw::BundleFirst {

@@ -12,6 +12,7 @@ use oracle::modes::reading::record::{Record, Send};
 use oracle::modes::terms::{Field, Opening, PORTED, is_mode};
 use oracle::modes::{Settings, check};
 use oracle::rules::EARLIER;
+use oracle::strict::flag;
 use oracle::trial::Counted;
 
 use crate::lookups::Lookup;
@@ -75,6 +76,7 @@ impl Calls for Wrong {
         if !ends::is_same(self.flaw, dates, stated) {
             return Err(9);
         }
+        flag::test(self.read()?.opening.strict, stated)?;
         let list = records::cut(self.flaw, &self.read()?, send);
         if list.len() > records::most_listed(self.flaw) {
             return Err(10);

@@ -6,6 +6,7 @@ use oracle::modes::reading::record::{Record, Send, test_request};
 use oracle::modes::terms::{EXACT, Opening, PORTED, is_mode};
 use oracle::rules::cover::delays_cover;
 use oracle::rules::{EARLIER, LATER, is_rule};
+use oracle::strict::flag::is_flag;
 
 use super::flaw::Flaw;
 use super::range;
@@ -155,12 +156,13 @@ pub fn read(flaw: Flaw, record: &Record) -> Record {
 
 pub fn test(flaw: Flaw, record: &Record) -> Result<(), u8> {
     let is_none = !is_mode(record.opening.mode);
+    let is_taken = !is_none && is_flag(record.opening.strict);
     match (flaw, record.test()) {
         (Flaw::DamagedIsTwo, Err(_)) if is_none => Err(2),
         (Flaw::DamagedRuleIsTwo, Err(_)) if !is_rule(record.opening.rule) => Err(2),
         (_, Err(_)) if takes_gap(flaw, &record.opening) => Ok(()),
-        (Flaw::RecordUntested, Err(_)) if !is_none => Ok(()),
-        (Flaw::RecordPortedRange, Err(_)) if !is_none => match without_mode(&record.opening) {
+        (Flaw::RecordUntested, Err(_)) if is_taken => Ok(()),
+        (Flaw::RecordPortedRange, Err(_)) if is_taken => match without_mode(&record.opening) {
             None => Ok(()),
             Some(_) => Err(1),
         },

@@ -9,6 +9,7 @@ use oracle::modes::terms::{Opening as PolyOpened, PORTED};
 use oracle::refusal::Refusal;
 use oracle::rules::{self, EARLIER};
 use oracle::state::Record;
+use oracle::strict::flag::OFF;
 
 use super::flaw::{Flaw, Whose};
 
@@ -31,6 +32,7 @@ impl Kept {
             let opening = RatedOpened {
                 edition: FIRST,
                 rule,
+                strict: OFF,
                 contact: contact.clone(),
             };
             Kept::Rated(Box::new(Rated::opened(manager, &opening)))
@@ -41,6 +43,7 @@ impl Kept {
             Ruled::Poly(contact) => Kept::Poly(Box::new(Poly::opened(&PolyOpened {
                 mode: PORTED,
                 rule,
+                strict: OFF,
                 contact: contact.clone(),
             }))),
         }
