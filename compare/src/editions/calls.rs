@@ -30,30 +30,3 @@ pub fn ask(calls: &mut impl Calls, call: &Call) -> Said {
         Call::Write(field) => Said::done(calls.write(*field)),
     }
 }
-
-/// So that the managers' calls can be of several types.
-impl<C: Calls + ?Sized> Calls for Box<C> {
-    fn open(&mut self, opening: &Opening) -> Result<(), u8> {
-        (**self).open(opening)
-    }
-
-    fn dry_run(&mut self, request: Request) -> Result<Dates, u8> {
-        (**self).dry_run(request)
-    }
-
-    fn book(&mut self, request: Request, stated: Dates) -> Result<(), u8> {
-        (**self).book(request, stated)
-    }
-
-    fn list(&mut self) -> Result<Vec<Span>, u8> {
-        (**self).list()
-    }
-
-    fn room(&mut self) -> Result<i64, u8> {
-        (**self).room()
-    }
-
-    fn write(&mut self, field: Field) -> Result<(), u8> {
-        (**self).write(field)
-    }
-}

@@ -2,17 +2,22 @@
 //! against a reading of the documents: the manager's own, which tests nothing,
 //! and the total one, on a copy of the record. They must say and leave the same.
 
+pub mod poly;
+pub mod queue;
+pub mod rated;
+
 use std::fmt::Debug;
 use std::sync::Once;
 
 use howrekano::{Bundle, DelaySegment, Interval, Manager, Offer, Record, Refusal, VolumeSegment};
-use oracle::frames::{Dates, Request, Span, Window};
+use oracle::frames::{Dates, Load, Request, Span, Window};
 
 /// None of document 01's numbers: the doors do not agree, or a refusal has
 /// changed the record.
 const DOORS: u8 = 0xfe;
 
 /// What is open. A record that breaks its rules is no manager's.
+#[derive(Clone, Copy)]
 pub enum Held<R: Record> {
     Nothing,
     Whole(Manager<R>),
@@ -57,17 +62,30 @@ impl<R: Record + Debug> Held<R> {
     pub fn book(&mut self, request: Request, stated: Dates) -> Result<(), u8> {
         let (at, bundle) = asked(request);
         let offer = offer(stated);
+        let kept = |manager: &mut Manager<R>| manager.book(at, bundle, offer);
+        let total = |record: &mut R| record.book(at, bundle, offer);
+        self.change("bookings", kept, total)
+    }
+
+    /// A call that changes the record, by both doors.
+    pub fn change(
+        &mut self,
+        what: &str,
+        kept: impl FnOnce(&mut Manager<R>) -> Result<(), Refusal>,
+        total: impl FnOnce(&mut R) -> Result<(), Refusal>,
+    ) -> Result<(), u8> {
         let before = self.record()?;
         let mut after = before;
-        let total = after.book(at, bundle, offer);
+        let total = total(&mut after);
         if !is_left_well(total, &before, &after) {
-            return fault("a booking left", &after, &before);
+            return fault(&format!("{what} left"), &after, &before);
         }
         match self {
             Held::Whole(manager) => {
-                let kept = manager.book(at, bundle, offer);
-                agreed("booked records", Ok(*manager.record()), Ok(after))?;
-                agreed("bookings", kept, total)
+                let kept = kept(manager);
+                let records = format!("records after {what}");
+                agreed(&records, Ok(*manager.record()), Ok(after))?;
+                agreed(what, kept, total)
             }
             _ => total.map_err(Refusal::number),
         }
@@ -99,7 +117,7 @@ impl<R: Record + Debug> Held<R> {
     }
 }
 
-/// Whether the record is as a booking with this answer may leave it.
+/// Whether the record is as a call with this answer may leave it.
 fn is_left_well<R: Record>(answer: Result<(), Refusal>, before: &R, after: &R) -> bool {
     match answer {
         Ok(()) => after.is_kept(),
@@ -159,11 +177,14 @@ pub fn placed<T: Copy + Default, const PLACES: usize>(given: &[T]) -> [T; PLACES
 }
 
 fn asked(request: Request) -> (u64, Bundle) {
-    let bundle = Bundle {
-        size: word(request.load.size),
-        priority: request.load.priority,
-    };
-    (word(request.time), bundle)
+    (word(request.time), bundle(request.load))
+}
+
+pub fn bundle(load: Load) -> Bundle {
+    Bundle {
+        size: word(load.size),
+        priority: load.priority,
+    }
 }
 
 fn offer(Dates([start, end, from, to]): Dates) -> Offer {
