@@ -7,9 +7,9 @@
 //! original's calls ([`calls`]), answer, line. Above that stand the dialogues
 //! that are compared ([`generate`]) and the comparison itself ([`drive`]), and
 //! document 02's R-8, which is held against any program's answers without the
-//! original's ([`earliest`])., which have no original under edition 2
-//! and in mode 2, are read from the documents and held against a library's calls
-//! ([`editions`], [`modes`], over [`trial`]).
+//! original's ([`earliest`])., which have no original under edition
+//! 2, in mode 2 and under the strict flag, are read from the documents and held
+//! against a library's calls ([`editions`], [`modes`], [`strict`], over [`trial`]).
 
 /// The original, built unchanged by `build.rs`.
 pub extern crate asabr;

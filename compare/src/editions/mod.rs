@@ -1,5 +1,6 @@
 //! Document 02's R-5 held against a library's calls: free-volume and priority
-//! records that name their edition of the end rule, and their delay rule.
+//! records that name their edition of the end rule, their delay rule and the
+//! strict flag.
 //!
 //! [`reading`] answers every call from the words of documents 01 and 02 alone;
 //! [`dialogues`] makes calls from a seed; [`play`] holds the answers of the

@@ -12,8 +12,9 @@ pub use crate::trial::program::Ended;
 
 pub const HELP: &str = "\
 editions: makes random calls to the free-volume and the priority manager, whose
-records name their edition (document 02, R-5) and their delay rule (R-4), and
-compares every answer with a reading of documents 01 and 02 in plain Rust.
+records name their edition (document 02, R-5), their delay rule (R-4) and the
+strict flag (R-7), and compares every answer with a reading of documents 01 and 02
+in plain Rust.
 
   editions [--calls N] [--seed S]
 
@@ -25,8 +26,8 @@ After each booking, refused ones too, the whole list and the room are compared
 as well. On free-volume records opened fresh on windows of up to 4,096 ticks
 demand 3's sums are held tick by tick on the answers: under edition 2 in R-5's
 words, under edition 1 in the demand's own. About two openings in three are under
-rule 2 (R-4). Editions and rules that are none are stated in openings and written
-into records.
+rule 2, and half of them are strict. Editions, rules and flags that are none are
+stated in openings and written into records.
 
 On a difference a short dialogue that shows it is printed, and the check ends.
 The answer 254 is none of document 01's: the ways to make a call do not agree, as

@@ -1,6 +1,6 @@
 //! Document 02's R-6 held against a library's calls: polynomial records that
-//! name their mode, the ported capacity or the true integral, and their delay rule
-//!
+//! name their mode, the ported capacity or the true integral, their delay rule
+//! and the strict flag.
 //!
 //! [`reading`] answers every call from the words of documents 01 and 02 alone,
 //! the true integral in exact fractions; [`dialogues`] makes calls from a seed;

@@ -11,9 +11,9 @@ pub use crate::trial::program::Ended;
 
 pub const HELP: &str = "\
 modes: makes random calls to the polynomial manager, whose records name their
-mode (document 02, R-6) and their delay rule (R-4), and compares every answer with
-a reading of documents 01 and 02 in plain Rust, in which the true integral is an
-exact fraction.
+mode (document 02, R-6), their delay rule (R-4) and the strict flag (R-7), and
+compares every answer with a reading of documents 01 and 02 in plain Rust, in
+which the true integral is an exact fraction.
 
   modes [--calls N] [--seed S]
 
@@ -26,9 +26,10 @@ every offer and accepted booking in mode 2 R-6's claim is held: its end has
 enough exact capacity, and one tick earlier has less, unless it is exactly the
 size. On windows of up to 512 ticks the capacity is worked out tick by tick too,
 and where the rate is above zero at every tick and not below zero at every half
-tick no earlier tick has enough. About half of what is opened is under rule 2.
-Modes and rules that are none are stated in openings and written into records; the
-other mode and rule, offsets and coefficients are written too.
+tick no earlier tick has enough. About half of what is opened is under rule 2,
+and half is strict. Modes, rules and flags that are none are stated in openings
+and written into records; the other mode, rule and flag, offsets and coefficients
+are written too.
 
 On a difference a short dialogue that shows it is printed, and the check ends.
 The answer 254 is none of document 01's: the ways to make a call do not agree, as

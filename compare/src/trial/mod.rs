@@ -1,6 +1,6 @@
 //! A library's calls held against a reading of the documents, call by call, in
 //! dialogues from a seed: what the trials of single requests have in common
-//! ([`crate::editions`], [`crate::modes`]).
+//! ([`crate::editions`], [`crate::modes`], [`crate::strict`]).
 
 pub mod altered;
 pub mod answers;
