@@ -2,6 +2,7 @@
 
 use std::fmt;
 
+use super::flag::ZERO_LENGTH;
 use super::terms::{Call, Manager};
 use super::twins::Held;
 use crate::editions::terms::SECOND;
@@ -75,8 +76,10 @@ pub struct Figures {
 pub struct Twins {
     /// Calls that both answered alike.
     pub alike: usize,
-    /// What the one with the flag off answered where the strict one answered 17.
+    /// What the twin with the flag off answered where the one under test answered
+    /// 17, and the other way round.
     off: Tally<Manager>,
+    by_twin: Tally<Manager>,
 }
 
 impl Twins {
@@ -85,12 +88,16 @@ impl Twins {
             Held::Nothing => {}
             Held::Alike => self.alike += 1,
             Held::Refused(number) => self.off.count(manager, number),
+            Held::ByTwin(number) => self.by_twin.count(manager, number),
         }
     }
 
+    /// How often the flag off answered this number where the strict one of the two
+    /// answered 17.
     pub fn off(&self, manager: Manager, number: u8) -> usize {
         let wanted = (manager, number);
-        self.off.of(|manager, number| (manager, number) == wanted)
+        let of = |tally: &Tally<Manager>| tally.of(|called, number| (called, number) == wanted);
+        of(&self.off) + of(&self.by_twin)
     }
 }
 
@@ -143,7 +150,7 @@ impl Figures {
             .of(|called, number| (called.2, number) == wanted)
     }
 
-    fn lines(&self) -> [(&'static str, usize); 13] {
+    fn lines(&self) -> [(&'static str, usize); 14] {
         let Claimed {
             shown,
             unoffered,
@@ -152,6 +159,7 @@ impl Figures {
             ticks,
             filled,
         } = self.claims;
+        let refused = self.bookings(ZERO_LENGTH);
         [
             ("dialogues", self.dialogues),
             ("segments of the longest list", self.longest_list),
@@ -164,10 +172,8 @@ impl Figures {
                 "strict bookings of a zero length that is not offered",
                 unoffered,
             ),
-            (
-                "bookings answered 17",
-                self.bookings(super::flag::ZERO_LENGTH),
-            ),
+            ("bookings answered 17", refused),
+            ("  where there is no twin", refused - self.twins.off.all()),
             ("strict bookings accepted, each with a length", lengths),
             (
                 "strict bookings of edition 2 and of polynomials, none 17",
@@ -207,6 +213,9 @@ impl fmt::Display for Figures {
         }
         for (manager, answers) in self.twins.off.lines() {
             writeln!(text, "{manager}, 17, the twin with the flag off: {answers}")?;
+        }
+        for (manager, answers) in self.twins.by_twin.lines() {
+            writeln!(text, "{manager}, flag off, the strict twin 17: {answers}")?;
         }
         for (about, count) in self.lines() {
             writeln!(text, "{about}: {}", grouped(count))?;

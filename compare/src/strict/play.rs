@@ -54,6 +54,9 @@ impl<C: Calls> Table<'_, C> {
             }
             Call::Write(_) => self.fresh = None,
             Call::DryRun(_) => self.count_shown(&answered),
+            Call::List => self
+                .hold_listed(&answered, &Said::Number(0))
+                .map_err(About::Claim)?,
             Call::Book(request, stated) => self.after_booking(*request, *stated, &answered)?,
             _ => {}
         }

@@ -20,8 +20,10 @@ pub enum Held {
     /// There is no twin, or nothing is said of it.
     Nothing,
     Alike,
-    /// The strict one answers 17, and the other one this number.
+    /// The one under test answers 17, and its twin this number.
     Refused(u8),
+    /// The twin answers 17, and the one under test this number.
+    ByTwin(u8),
 }
 
 impl<C: Calls> Twin<C> {
@@ -82,7 +84,7 @@ impl<C: Calls> Twin<C> {
     fn hold_booking(&mut self, strict: u64, call: &Call, answered: &Said) -> Result<Held, String> {
         if strict == ON && answered.number() == ZERO_LENGTH {
             let said = self.calls.clone().ask(call);
-            return refused(call, &said);
+            return Ok(Held::Refused(without_flag(call, &said)?));
         }
         let said = self.calls.ask(call);
         if said == *answered {
@@ -92,15 +94,16 @@ impl<C: Calls> Twin<C> {
             return Err(told(call, &said, answered));
         }
         self.is_alike = answered.number() != 0;
-        refused(call, answered)
+        Ok(Held::ByTwin(without_flag(call, answered)?))
     }
 }
 
-/// 17 stands after 9 and before 10 and 13, and is for equal send dates alone.
-fn refused(call: &Call, off: &Said) -> Result<Held, String> {
+/// What the flag off answers where the strict one answers 17: that stands after 9
+/// and before 10 and 13, and is for equal send dates alone.
+fn without_flag(call: &Call, off: &Said) -> Result<u8, String> {
     let has_no_length = matches!(call, Call::Book(_, stated) if flag::has_no_length(*stated));
     match off.number() {
-        number @ (0 | 10 | 13) if has_no_length => Ok(Held::Refused(number)),
+        number @ (0 | 10 | 13) if has_no_length => Ok(number),
         _ => Err(format!("17 where the flag off answers {off}: {call}")),
     }
 }

@@ -80,14 +80,12 @@ pub fn change(rng: &mut Rng, manager: Manager, reading: &Reading) -> Field {
 }
 
 /// What puts the record's own number back.
-pub fn old(field: Field, reading: &Reading) -> Field {
+pub fn old(manager: Manager, field: Field, reading: &Reading) -> Field {
     let Chosen { kind, rule, strict } = reading.chosen();
     match (field, reading) {
-        (Field::Rated(field), _) => Field::Rated(match field {
-            RatedField::Edition(_) => RatedField::Edition(kind),
-            RatedField::Rule(_) => RatedField::Rule(rule),
-            RatedField::Strict(_) => RatedField::Strict(strict),
-        }),
+        _ if field.strict().is_some() => Field::flag(manager, strict),
+        (Field::Rated(RatedField::Rule(_)), _) => Field::Rated(RatedField::Rule(rule)),
+        (Field::Rated(_), _) => Field::Rated(RatedField::Edition(kind)),
         (Field::Poly(field), OneOf::Poly(it)) => {
             let opening = &it.record.as_ref().expect(OPEN).opening;
             Field::Poly(wrong::old(field, opening))
@@ -96,6 +94,6 @@ pub fn old(field: Field, reading: &Reading) -> Field {
             let queue = it.record.as_ref().expect(OPEN).queues[class];
             Field::Queue(QueueField::Queue(class, queue))
         }
-        _ => Field::Queue(QueueField::Strict(strict)),
+        _ => unreachable!("only fields of the manager that is called are written"),
     }
 }

@@ -279,7 +279,7 @@ impl<'a> Talk<'a> {
         let full = self.rng.below(classes - 1);
         let queue = MAX_QUEUE - self.rng.pick(&[0, 0, 0, 1, 5]);
         let field = Field::Queue(QueueField::Queue(full, queue));
-        let old = fields::old(field, &self.reading);
+        let old = fields::old(self.manager(), field, &self.reading);
         self.ask(Call::Write(field));
         for _ in 0..self.rng.between(1, 4) {
             let mut request = self.request();
@@ -332,7 +332,7 @@ impl<'a> Talk<'a> {
     fn write(&mut self, field: Field) {
         let request = self.request();
         let offer = self.offered(request).unwrap_or(Dates([request.time; 4]));
-        let old = fields::old(field, &self.reading);
+        let old = fields::old(self.manager(), field, &self.reading);
         self.ask(Call::Write(field));
         self.ask_dry_run(request);
         self.ask_booking(request, offer);
