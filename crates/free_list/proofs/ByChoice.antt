@@ -6,7 +6,6 @@ use native.Mathlib.Omega.{arith}
 use Rattle.units.specs.declared.Interval.{Interval}
 use Rattle.units.specs.declared.TxData.{TxData}
 use Rattle.units.specs.declared.Offer.{Offer}
-use Rattle.units.specs.Logic.{unless}
 use Rattle.units.specs.Answer.{refused, offers, bookingOf}
 use Rattle.units.specs.Strict.{forbids}
 use Rattle.units.specs.Granted.{refusalOf}

@@ -1,6 +1,5 @@
 -- 02, R-7, of the polynomial manager's promises: every other call answers, and alters the record, as with the flag off; 17 is out of reach.
 use Prim.Native.Nat.{ℕ}
-use mathlib.Core.Bool.{true}
 use mathlib.Core.Path.{_≡_, refl}
 use mathlib.Core.List.{List}
 use native.Mathlib.Omega.{arith}

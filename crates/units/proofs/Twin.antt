@@ -1,7 +1,7 @@
 -- 02, R-7, once over the manager: where its calls are 01's tables and twins differ in the flag alone, 02's sentence holds of it.
 use Prim.Native.Nat.{ℕ}
 use mathlib.Core.Bool.{Bool, true, false}
-use mathlib.Core.Path.{_≡_, refl, sym, ap, _∙_}
+use mathlib.Core.Path.{_≡_, refl, sym, _∙_}
 use Rattle.units.specs.declared.Date.{Date}
 use Rattle.units.specs.declared.TxData.{TxData}
 use Rattle.units.specs.declared.Bundle.{Bundle}

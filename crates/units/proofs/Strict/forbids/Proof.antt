@@ -1,6 +1,6 @@
 -- `units::Strict::forbids` meets its contract.
 use borrow.Author.Tests.{eq-eqb, ne-eqb}
-use mathlib.Core.Path.{_≡_, sym}
+use mathlib.Core.Path.{sym}
 use Rattle.units.specs.Strict.{forbids}
 use Rattle.units.proofs.Logic.{both-go, both-stop}
 use Rattle.units.proofs.Strict.forbids.Statement.{statement}
