@@ -14,6 +14,8 @@ use Rattle.units.proofs.Determined.{Determined}
 use Rattle.legacy.specs.declared.Choices.{Choices}
 use Rattle.legacy.specs.declared.Flags.{Flags}
 use Rattle.legacy.specs.declared.Queue.{Queue}
+use Rattle.legacy.proofs.Choices.ported.Reads as ported-reads
+use Rattle.legacy.proofs.Choices.ok.Reads as choices-ok-reads
 use Rattle.legacy.proofs.Queue.open.Reads as open-reads
 use Rattle.legacy.proofs.Queue.ok.Reads as ok-reads
 use Rattle.legacy.proofs.Queue.rate_ok.Reads as rate-ok-reads
@@ -33,6 +35,12 @@ use Rattle.legacy.proofs.volumes.hold.Reads as hold-reads
 use Rattle.legacy.proofs.volumes.unused.Reads as unused-reads
 use Rattle.legacy.proofs.volumes.add.Reads as add-reads
 use Rattle.legacy.proofs.volumes.take.Reads as take-reads
+
+pub ported-unique : Determined (ported-reads.Post tt tt)
+ported-unique r q x y f g = f ∙ sym g
+
+pub choices-ok-unique : (h : Choices) → Determined (choices-ok-reads.Post tt (h, tt))
+choices-ok-unique h r q x y f g = f ∙ sym g
 
 pub open-unique : (h : Choices) (w : Interval) (rate : Rate) (d : Delay) (n : ℕ) (flags : Flags) (budgets : List Volume) → Determined (open-reads.Post tt (h, (w, (rate, (d, (n, (flags, (budgets, tt))))))))
 open-unique h w rate d n flags budgets r q x y f g = f ∙ sym g
