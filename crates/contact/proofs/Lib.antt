@@ -8,6 +8,7 @@ pub mod Sound
 pub mod Total
 pub mod Fresh
 pub mod Twin
+pub mod Lasting
 pub mod Unique
 pub mod Boundary
 pub mod Lookup

@@ -1,6 +1,8 @@
 -- 01, "Records": unused places are zero, and all that the opening tests holds; volume segments hold rate times length.
 use Prim.Native.Nat.{ℕ}
 use mathlib.Core.Bool.{Bool}
+use mathlib.Core.Path.{_≡_}
+use mathlib.Core.Logic.{_⊎_}
 use lib.Dec.{eqb}
 use lib.ListN.{take, drop}
 use mathlib.Core.List.{List, map}
@@ -33,6 +35,9 @@ totalIn c = totalOf (map rateSegment (ratesOf c))
 abbrev pub editionOf : Contact → ℕ
 editionOf c = c .choices .edition .0
 
+abbrev pub endRule : Contact → ℕ → ℕ → ℕ → End
+endRule c = endOf (editionOf c) (ratesOf c)
+
 -- its strict flag, and the contact with another
 abbrev pub strictOf : Contact → ℕ
 strictOf c = c .choices .strict .0
@@ -48,8 +53,9 @@ flagged n c =
       «delay_count» = c .«delay_count»;
     }
 
-abbrev pub endRule : Contact → ℕ → ℕ → ℕ → End
-endRule c = endOf (editionOf c) (ratesOf c)
+-- 02, R-7 and R-5: every send holds an instant where the flag is on or the edition is 2
+abbrev pub Lasts : Contact → Type 0
+Lasts c = (strictOf c ≡ 1) ⊎ (editionOf c ≡ 2)
 
 -- the delays at a send start and a send end by the rule that it names, and the answer with a send interval
 abbrev pub delaysAt : Contact → ℕ → ℕ → Delays

@@ -304,6 +304,9 @@ fn contacts(r: FreeVolume) {
     report(51, delayed(r, three, delay(0, 0, 1), 1));
     // valid: two delay segments
     report(102, delayed(r, delay(0, 5, 3), delay(5, 10, 3), 2));
+}
+
+fn choosing(r: FreeVolume) {
     // valid: edition 2, in which the send is 3,5, so that the booking stated is not offered
     report(103, named(r, Edition::SECOND, Rule::FIRST, Strict::OFF));
     // editions: none, one too many, the largest
@@ -340,4 +343,5 @@ pub fn run() {
     let r = fresh();
     free_lists(r);
     contacts(r);
+    choosing(r);
 }

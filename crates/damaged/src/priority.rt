@@ -133,8 +133,7 @@ fn named(r: PrioritySeg, edition: u64, rule: u64, strict: u64) -> PrioritySeg {
     }
 }
 
-pub fn run() {
-    let r = fresh();
+fn lists(r: PrioritySeg) {
     let whole = segment(0, 10, 0);
     let zero = segment(0, 0, 0);
     // valid: as opened; two segments; an empty one; the highest level; booked at the priority itself
@@ -160,6 +159,9 @@ pub fn run() {
     report(75, listing(r, whole, segment(1, 0, 0), 1));
     report(76, listing(r, whole, segment(0, 1, 0), 1));
     report(77, listing(r, whole, segment(0, 0, 1), 1));
+}
+
+fn choosing(r: PrioritySeg) {
     // valid: edition 2, in which the send is 3,5, so that the booking stated is not offered; editions: none, one too many, the largest
     report(103, named(r, Edition::SECOND, Rule::FIRST, Strict::OFF));
     report(78, named(r, 0, Rule::FIRST, Strict::OFF));
@@ -189,4 +191,10 @@ pub fn run() {
     // a send of zero length is booked with the flag off, 17 with it on
     briefly(97, r);
     briefly(105, strict);
+}
+
+pub fn run() {
+    let r = fresh();
+    lists(r);
+    choosing(r);
 }

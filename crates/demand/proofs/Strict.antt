@@ -3,7 +3,7 @@ use Prim.Native.Nat.{ℕ, zero, suc, _+_, _-_, _<_, _≤_}
 use mathlib.Core.Bool.{Bool, true, false}
 use mathlib.Core.Path.{_≡_, refl, sym, ap, _∙_}
 use mathlib.Core.List.{List, [], _∷_}
-use mathlib.Core.Logic.{⊎-elim, _⊎_}
+use mathlib.Core.Logic.{_⊎_}
 use native.Mathlib.Omega.{arith}
 use lib.ListN.{length}
 use Rattle.units.specs.Limits.{segmentsMax}
@@ -13,13 +13,13 @@ use Rattle.units.specs.declared.TxData.{TxData}
 use Rattle.units.specs.declared.Bundle.{Bundle}
 use Rattle.units.specs.Logic.{pick}
 use Rattle.units.proofs.Determined.{Met}
-use Rattle.units.proofs.Forbids.{strict-lasts}
 use Rattle.segmentation.specs.declared.RateSegment.{RateSegment}
 use Rattle.segmentation.specs.declared.DelaySegment.{DelaySegment}
 use Rattle.contact.specs.declared.Choices.{Choices}
 use Rattle.contact.specs.declared.Contact.{Contact}
 use Rattle.contact.specs.Open.{contactOf}
-use Rattle.contact.specs.Record.{editionOf, strictOf}
+use Rattle.contact.specs.Record.{Lasts}
+use Rattle.contact.proofs.Lasting.{lasts-holds}
 use Rattle.seg.specs.declared.FreeVolume.{FreeVolume}
 use Rattle.seg.specs.declared.Opened.{Opened}
 use Rattle.seg.specs.Record.{recordOk}
@@ -61,22 +61,12 @@ each-least (b ∷ log) h = omega (arith, h .0, sum-one (b .send .start .0) (b .s
 pub few : (w : Interval) (log : List Booking) → AllIn w log → Pairwise log → AllHold log → length log ≤ w .end .0 - w .start .0
 few w log i p h = omega (arith, each-least log h, held-each one w log i p, held-most log (w .start .0) (w .end .0 - w .start .0))
 
--- the flag is on, or the edition is 2
-abbrev Lasts : Contact → Type 0
-Lasts c = (strictOf c ≡ 1) ⊎ (editionOf c ≡ 2)
-
-before : {s e : ℕ} → s ≤ e → (s ≡ e → ⊥) → s < e
-before le ne = omega arith
-
--- an accepted send then holds an instant
+-- where every send lasts, an accepted one holds an instant
 accepted-holds : (r : FreeVolume) (at : Date) (b : Bundle) (d : TxData) → recordOk r ≡ true → Lasts (r .contact) → Accepted r at b d (bookOf r at b d) → d .send .start .0 < d .send .end .0
 accepted-holds r at b d ok last x =
     let q = facts r ok in
-    ⊎-elim
-    (λ (on : strictOf (r .contact) ≡ 1).
-    before (found-inside r q (at .0) (b .size .0) (x .some) (x .place) (d .send) (x .found) .1) (strict-lasts (strictOf (r .contact)) (d .send) on (x .allowed)))
-    (λ (two : editionOf (r .contact) ≡ 2). found-after r q two (at .0) (b .size .0) (x .some) (x .place) (d .send) (x .found))
-    last
+    lasts-holds (r .contact) (d .send) last (found-inside r q (at .0) (b .size .0) (x .some) (x .place) (d .send) (x .found) .1) (x .allowed)
+    (λ two. found-after r q two (at .0) (b .size .0) (x .some) (x .place) (d .send) (x .found))
 
 -- what any calls keep of such a record
 record Holding (c : Contact) (x : State) : Type 0 where

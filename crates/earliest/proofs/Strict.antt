@@ -4,7 +4,6 @@ use mathlib.Core.Bool.{true}
 use mathlib.Core.Path.{_≡_, sym, ap, _∙_}
 use mathlib.Core.List.{List}
 use mathlib.Core.Logic.{⊎-elim, _⊎_}
-use native.Mathlib.Omega.{arith}
 use lib.ListN.{length}
 use Rattle.units.specs.Limits.{segmentsMax, bundleOk}
 use Rattle.units.specs.declared.Date.{Date}
@@ -14,14 +13,14 @@ use Rattle.units.specs.declared.Bundle.{Bundle}
 use Rattle.units.specs.declared.Offer.{Offer}
 use Rattle.units.specs.Calls.{Runs}
 use Rattle.units.proofs.Determined.{Met}
-use Rattle.units.proofs.Forbids.{strict-lasts}
 use Rattle.units.proofs.Runs.{run-keeps}
 use Rattle.segmentation.specs.declared.RateSegment.{RateSegment}
 use Rattle.segmentation.specs.declared.DelaySegment.{DelaySegment}
 use Rattle.contact.specs.declared.Choices.{Choices}
 use Rattle.contact.specs.declared.Contact.{Contact}
 use Rattle.contact.specs.Open.{contactOf}
-use Rattle.contact.specs.Record.{editionOf, strictOf}
+use Rattle.contact.specs.Record.{Lasts}
+use Rattle.contact.proofs.Lasting.{lasts-holds}
 use Rattle.bookings.specs.Listed.{listed}
 use Rattle.pseg.specs.declared.PrioritySeg.{PrioritySeg}
 use Rattle.pseg.specs.declared.Opened.{Opened}
@@ -38,10 +37,6 @@ use Rattle.earliest.specs.Rest.{Rest}
 use Rattle.earliest.proofs.Filled.{set-filled, opened-filled}
 use Rattle.earliest.proofs.Calls.{earliest}
 
--- the flag is on, or the edition is 2
-abbrev Lasts : Contact → Type 0
-Lasts c = (strictOf c ≡ 1) ⊎ (editionOf c ≡ 2)
-
 -- what any calls keep of such a record
 record Filling (c : Contact) (r : PrioritySeg) : Type 0 where
   ok : recordOk r ≡ true
@@ -57,13 +52,8 @@ module _ (c : Contact) (last : Lasts c) where
     accepted-holds : Accepted r at b d (bookOf r at b d) → d .send .start .0 < d .send .end .0
     accepted-holds x =
         let fs = facts r (q .ok) in
-        ⊎-elim
-        (λ (on : strictOf (r .contact) ≡ 1).
-        let forth = found-ends r fs (at .0) b (d .send) (x .found) (x .some) .forth in
-        let apart = strict-lasts (strictOf (r .contact)) (d .send) on (x .allowed) in
-        omega arith)
-        (λ (two : editionOf (r .contact) ≡ 2). found-after r fs two (at .0) b (x .some) (d .send) (x .found))
-        lasts
+        lasts-holds (r .contact) (d .send) lasts (found-ends r fs (at .0) b (d .send) (x .found) (x .some) .forth) (x .allowed)
+        (λ two. found-after r fs two (at .0) b (x .some) (d .send) (x .found))
 
     booked-filled : NoEmpty (bookOf r at b d .manager)
     booked-filled =

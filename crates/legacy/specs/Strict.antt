@@ -5,6 +5,7 @@ use Rattle.legacy.specs.declared.Opened.{Opened}
 use Rattle.legacy.specs.declared.Booked.{Booked}
 use Rattle.legacy.specs.Choices.{flagging}
 
+-- the record
 abbrev pub flagged : ℕ → Queue → Queue
 flagged n r =
     record {
@@ -18,8 +19,10 @@ flagged n r =
       budgets = r .budgets;
     }
 
+-- a booking's answer: the same number, and the record that it hands back
 abbrev pub turned : ℕ → Booked → Booked
 turned n a = record { number = a .number; manager = flagged n (a .manager) }
 
+-- an accepted opening's answer
 abbrev pub turnedOpening : ℕ → Opened → Opened
 turnedOpening n o = record { number = o .number; manager = flagged n (o .manager) }

@@ -5,6 +5,7 @@ use Rattle.poly_seg.specs.declared.Opened.{Opened}
 use Rattle.poly_seg.specs.declared.Booked.{Booked}
 use Rattle.poly_seg.specs.Choices.{flagging}
 
+-- the record
 abbrev pub flagged : ℕ → PolySeg → PolySeg
 flagged n r =
     record {
@@ -16,8 +17,10 @@ flagged n r =
       free = r .free;
     }
 
+-- a booking's answer: the same number, and the record that it hands back
 abbrev pub turned : ℕ → Booked → Booked
 turned n a = record { number = a .number; manager = flagged n (a .manager) }
 
+-- an accepted opening's answer
 abbrev pub turnedOpening : ℕ → Opened → Opened
 turnedOpening n o = record { number = o .number; manager = flagged n (o .manager) }

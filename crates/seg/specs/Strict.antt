@@ -5,11 +5,14 @@ use Rattle.seg.specs.declared.FreeVolume.{FreeVolume}
 use Rattle.seg.specs.declared.Opened.{Opened}
 use Rattle.seg.specs.declared.Booked.{Booked}
 
+-- the record
 abbrev pub flagged : ℕ → FreeVolume → FreeVolume
 flagged n r = record { contact = contactFlagged n (r .contact); free = r .free; room = r .room }
 
+-- a booking's answer: the same number, and the record that it hands back
 abbrev pub turned : ℕ → Booked → Booked
 turned n a = record { number = a .number; manager = flagged n (a .manager) }
 
+-- an accepted opening's answer
 abbrev pub turnedOpening : ℕ → Opened → Opened
 turnedOpening n o = record { number = o .number; manager = flagged n (o .manager) }
