@@ -2,9 +2,7 @@
 use Prim.Native.Nat.{ℕ}
 use mathlib.Core.Bool.{Bool, true, false}
 use mathlib.Core.Path.{◌≡◌, refl, sym, ◌∙◌}
-use mathlib.Core.Bool.{not}
 use lib.Dec.{eqb}
-use borrow.Author.Tests.{not-true, not-false}
 use Rattle.units.specs.Logic.{both, unless, pick}
 
 pub pick_yes : {A : Type 0} (c : Bool) (x y : A) → c ≡ true → pick c x y ≡ x
@@ -27,8 +25,8 @@ done-unless number false x y e = e
 
 -- what a call has told of a test, behind `if !call(..)`
 module _ {r t : Bool} (told : r ≡ t) where
-  pub told-yes : not r ≡ false → t ≡ true
-  told-yes e = sym told ∙ not-false r e
+  pub told-yes : r ≡ true → t ≡ true
+  told-yes e = sym told ∙ e
 
-  pub told-no : not r ≡ true → t ≡ false
-  told-no e = sym told ∙ not-true r e
+  pub told-no : r ≡ false → t ≡ false
+  told-no e = sym told ∙ e

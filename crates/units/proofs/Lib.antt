@@ -16,4 +16,7 @@ pub mod Booking
 pub mod Forbids
 pub mod Twin
 pub mod Runs
+pub mod Logged
+pub mod Tables
 pub mod Unique
+pub mod Order

@@ -1,6 +1,5 @@
 -- 01, "Refusal numbers": an answer is a number and four dates; a refusal has zero dates.
 use Rattle.std.specs.Prelude.{ℕ, ◌+◌, Bool, eqb}
-use Rattle.units.specs.declared.Date.{Date}
 use Rattle.units.specs.declared.Interval.{Interval}
 use Rattle.units.specs.declared.TxData.{TxData}
 use Rattle.units.specs.declared.Offer.{Offer}

@@ -3,6 +3,9 @@ pub mod Limits
 pub mod Answer
 pub mod Strict
 pub mod Calls
+pub mod Logged
+pub mod Instants
 pub mod Twin
 pub mod Granted
 pub mod Arrays
+pub mod Order

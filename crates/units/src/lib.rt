@@ -1,4 +1,6 @@
 // The numbers of document 01 with their units, and the words that every manager answers in.
+#![tactic(auto)]
+
 ghost use Rattle.std.specs.Prelude.{◌≡◌, ◌+◌, ◌≤◌, min, max};
 ghost use Rattle.units.specs.Limits.{date_max, delay_max, bundle_ok, load_ok, one_or_two, window_ok};
 ghost use Rattle.units.specs.Answer.{refused, same_dates, offers};
@@ -8,28 +10,28 @@ ghost use Rattle.units.specs.Granted.{refusal_of};
 pub mod refusal;
 
 #[repr(C)]
-#[derive(Drop)]
+#[derive(Clone, Copy)]
 pub struct Date(pub u64);
 
 #[repr(C)]
-#[derive(Drop)]
+#[derive(Clone, Copy)]
 pub struct Volume(pub u64);
 
 #[repr(C)]
-#[derive(Drop)]
+#[derive(Clone, Copy)]
 pub struct Rate(pub u64);
 
 #[repr(C)]
-#[derive(Drop)]
+#[derive(Clone, Copy)]
 pub struct Delay(pub u64);
 
 #[repr(C)]
-#[derive(Drop)]
+#[derive(Clone, Copy)]
 pub struct Priority(pub u8);
 
 // types.rs: TimeInterval
 #[repr(C)]
-#[derive(Drop)]
+#[derive(Clone, Copy)]
 pub struct Interval {
     pub start: Date,
     pub end: Date,
@@ -37,12 +39,12 @@ pub struct Interval {
 
 // 02, R-7: whether a record refuses to book sends of zero length.
 #[repr(C)]
-#[derive(Drop)]
+#[derive(Clone, Copy)]
 pub struct Strict(pub u64);
 
 // contact_manager/mod.rs: ContactManagerTxData
 #[repr(C)]
-#[derive(Drop)]
+#[derive(Clone, Copy)]
 pub struct TxData {
     pub send: Interval,
     pub recv: Interval,
@@ -50,7 +52,7 @@ pub struct TxData {
 
 // bundle.rs: Bundle
 #[repr(C)]
-#[derive(Drop)]
+#[derive(Clone, Copy)]
 pub struct Bundle {
     pub size: Volume,
     pub priority: Priority,
@@ -58,7 +60,7 @@ pub struct Bundle {
 
 // What a dry run answers: 01's number, and the four dates, which are zero unless the number is.
 #[repr(C)]
-#[derive(Drop)]
+#[derive(Clone, Copy)]
 pub struct Offer {
     pub number: u8,
     pub dates: TxData,
