@@ -9,7 +9,7 @@ use lib.Dec.{leb, ltb, eqb}
 use lib.ListN.{length}
 use borrow.Author.Tests.{le-leb, lt-leb, le-ltb, leb-true, leb-false, lt-ltb, eq-eqb, ne_eqb}
 use Rattle.units.specs.Limits.{delay_max}
-use Rattle.units.specs.Logic.{both, pick}
+use Rattle.units.specs.Logic.{pick}
 use Rattle.units.specs.Answer.{interval, refused}
 use Rattle.units.specs.declared.Delay.{Delay}
 use Rattle.units.specs.declared.Interval.{Interval}

@@ -13,7 +13,7 @@ use Rattle.units.proofs.Numbers.{le-or-lt, eq-or-ne}
 use Rattle.segmentation.specs.declared.VolumeSegment.{VolumeSegment}
 use Rattle.segmentation.specs.declared.End.TheVariants.{At, None}
 use Rattle.segmentation.specs.Capacity.{rate_at, cap_of, capacity, top_of}
-use Rattle.segmentation.specs.End.{Reach, by, close_of, round_of, by_deadline, end_given, end_of}
+use Rattle.segmentation.specs.End.{Reach, close_of, round_of, by_deadline, end_given, end_of}
 use Rattle.segmentation.proofs.Capacity.{rate-top, cap-zero, cap-none, cap-same, cap-split}
 use Rattle.segmentation.proofs.Reach.{Reached, first-low, first-unique, Found, found, lost, reach-is, end_by, end-never}
 

@@ -7,4 +7,6 @@ pub mod EndLaws
 pub mod RateLoop
 pub mod DelayLoop
 pub mod DelayLaws
+pub mod Answered
 pub mod Unique
+pub mod EndIs

@@ -2,3 +2,4 @@ pub mod Capacity
 pub mod End
 pub mod Delay
 pub mod Granted
+pub mod EndIs

@@ -1,4 +1,6 @@
 // The rounding and lookup rules (segmentation/mod.rs): the end of a send, the volume between two dates, the delays.
+#![tactic(auto)]
+
 ghost use Rattle.std.specs.Prelude.{◌≡◌, ℕ, ◌+◌, ◌-◌, ◌*◌, ◌/◌, ◌<◌, ◌≤◌, min, max, eqb, length, take, drop, List, [], ◌∷◌};
 ghost use Rattle.units.specs.Limits.{date_max, volume_max, segments_max};
 ghost use Rattle.units.specs.Logic.{pick};
@@ -11,7 +13,7 @@ use units::{Date, Delay, Interval, Offer, Rate, TxData, Volume};
 
 // The edition of the end rule: 1 is the source's, 2 ends a send when its final unit has left.
 #[repr(C)]
-#[derive(Drop)]
+#[derive(Clone, Copy)]
 pub struct Edition(pub u64);
 
 impl Edition {
@@ -32,7 +34,7 @@ impl Edition {
 
 // The rule of the delay lookup: 1 is the source's, in 2 a boundary belongs to what follows.
 #[repr(C)]
-#[derive(Drop)]
+#[derive(Clone, Copy)]
 pub struct Rule(pub u64);
 
 impl Rule {
@@ -72,7 +74,7 @@ impl Rule {
 
 // Segment<DataRate>: what an opening is given.
 #[repr(C)]
-#[derive(Drop)]
+#[derive(Clone, Copy)]
 pub struct RateSegment {
     pub start: Date,
     pub end: Date,
@@ -81,7 +83,7 @@ pub struct RateSegment {
 
 // Segment<Volume>: a rate times its length, or a listed stretch of free time with its volume.
 #[repr(C)]
-#[derive(Drop)]
+#[derive(Clone, Copy)]
 pub struct VolumeSegment {
     pub start: Date,
     pub end: Date,
@@ -90,21 +92,21 @@ pub struct VolumeSegment {
 
 // Segment<Duration>
 #[repr(C)]
-#[derive(Drop)]
+#[derive(Clone, Copy)]
 pub struct DelaySegment {
     pub start: Date,
     pub end: Date,
     pub delay: Delay,
 }
 
-#[derive(Drop)]
+#[derive(Clone, Copy)]
 pub enum End {
     At(Date),
     None,
 }
 
 // The delays at the start and at the end of a send interval.
-#[derive(Drop)]
+#[derive(Clone, Copy)]
 pub enum Delays {
     Of(Delay, Delay),
     None,
