@@ -13,3 +13,4 @@ pub mod Unique
 pub mod Boundary
 pub mod Lookup
 pub mod Offers
+pub mod Order

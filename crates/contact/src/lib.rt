@@ -1,4 +1,6 @@
 // What the free-volume and the priority record share: the window, the rate and the delay segments, their opening and their test.
+#![tactic(auto)]
+
 ghost use Rattle.std.specs.Prelude.{◌≡◌, true, ◌≤◌};
 ghost use Rattle.units.specs.Limits.{date_max};
 ghost use Rattle.contact.specs.Choices.{ported, choices_ok};
@@ -14,7 +16,7 @@ pub mod test;
 
 // What an opening chooses and the record names: the edition of the end rule, the rule of the delays and the strict flag.
 #[repr(C)]
-#[derive(Drop)]
+#[derive(Clone, Copy)]
 pub struct Choices {
     pub edition: Edition,
     pub rule: Rule,
@@ -49,7 +51,7 @@ impl Choices {
 }
 
 #[repr(C)]
-#[derive(Drop)]
+#[derive(Clone, Copy)]
 pub struct Contact {
     pub choices: Choices,
     pub window: Interval,
@@ -61,7 +63,7 @@ pub struct Contact {
 
 // An opening's answer: 01's number, the total volume and the contact, all zero on a refusal.
 #[repr(C)]
-#[derive(Drop)]
+#[derive(Clone, Copy)]
 pub struct Opened {
     pub number: u8,
     pub total: Volume,

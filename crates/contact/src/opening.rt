@@ -9,7 +9,7 @@ use segmentation::{DelaySegment, RateSegment, VolumeSegment};
 use units::{Date, Delay, Interval, Rate, Volume};
 
 // The total volume of a rate list, if it and each rate are inside their limits.
-#[derive(Drop)]
+#[derive(Clone, Copy)]
 pub enum Total {
     Of(Volume),
     Over,
