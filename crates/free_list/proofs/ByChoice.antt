@@ -6,7 +6,7 @@ use native.Mathlib.Omega.{arith}
 use Rattle.units.specs.declared.Interval.{Interval}
 use Rattle.units.specs.declared.TxData.{TxData}
 use Rattle.units.specs.declared.Offer.{Offer}
-use Rattle.units.specs.Answer.{refused, offers, booking_of}
+use Rattle.units.specs.Answer.{offers, booking_of}
 use Rattle.units.specs.Strict.{forbids}
 use Rattle.units.specs.Granted.{refusal_of}
 use Rattle.units.proofs.Logic.{no_both, unless-go, unless-stop}

@@ -5,9 +5,11 @@ pub mod Shift
 pub mod Offered
 pub mod OneLoop
 pub mod CutLaws
+pub mod Log
 pub mod Places
 pub mod CutList
 pub mod CutRoom
 pub mod Unique
 pub mod ByChoice
 pub mod Second
+pub mod First

@@ -61,7 +61,7 @@ module _ (E : Rule) (g : VolumeSegment) (t v : ℕ) where
   end-early h = rw (lt-ltb _ _ h)
 
   module _ (h : t ≤ g.end.0) where
-    end-late : end_in E g t v ≡ end_from E g (max g.start.0 t) v
+    pub end-late : end_in E g t v ≡ end_from E g (max g.start.0 t) v
     end-late = rw (le-ltb _ _ h)
 
     pub end-small : g.volume.0 < v → end_in E g t v ≡ no_end

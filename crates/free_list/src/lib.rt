@@ -1,4 +1,6 @@
 // Lists of free time: their test in one pass, the search for an offer, the cut of a booking.
+#![tactic(auto)]
+
 ghost use Rattle.std.specs.Prelude.{◌≡◌, true, List, [], ◌∷◌, ◌+◌, ◌-◌, ◌<◌, ◌≤◌, ◌^◌, take, drop};
 ghost use Rattle.units.specs.Limits.{segments_max, listed_max};
 ghost use Rattle.units.specs.Logic.{all_of};
@@ -16,7 +18,7 @@ use units::{Date, Interval, Offer, Volume};
 pub mod walk;
 
 #[repr(C)]
-#[derive(Drop)]
+#[derive(Clone, Copy)]
 pub struct FreeList {
     pub segments: [VolumeSegment; FreeList::COUNT_MAX],
     pub count: usize,
@@ -27,7 +29,7 @@ impl FreeList {
 }
 
 // The listed segment that makes the offer, and the send interval.
-#[derive(Drop)]
+#[derive(Clone, Copy)]
 pub enum Found {
     At { place: usize, send: Interval },
     None,
@@ -35,7 +37,7 @@ pub enum Found {
 
 // What a dry run finds: its answer, and the place of the listed segment behind it, 0 on a refusal.
 #[repr(C)]
-#[derive(Drop)]
+#[derive(Clone, Copy)]
 pub struct Chosen {
     pub offer: Offer,
     pub place: usize,
@@ -43,7 +45,7 @@ pub struct Chosen {
 
 // A cut's answer: 0 and the list that is left, or 10 and the list as it came; what it took off the listed volumes, and what it put in.
 #[repr(C)]
-#[derive(Drop)]
+#[derive(Clone, Copy)]
 pub struct Cut {
     pub number: u8,
     pub list: FreeList,

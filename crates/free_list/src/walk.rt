@@ -12,7 +12,7 @@ use units::{Date, Interval, Rate, Volume};
 
 // The place in the free list, the least start allowed there, the room before it, the capacity found so far; the rate segment in hand.
 #[repr(C)]
-#[derive(Drop)]
+#[derive(Clone, Copy)]
 pub struct Walk {
     pub i: usize,
     pub low: Date,
@@ -24,7 +24,7 @@ pub struct Walk {
     pub rate: Rate,
 }
 
-#[derive(Drop)]
+#[derive(Clone, Copy)]
 pub enum Taken {
     Go(Walk),
     No,
