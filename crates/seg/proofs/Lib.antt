@@ -1,9 +1,12 @@
 pub mod Facts
 pub mod Calls
 pub mod Kept
+pub mod Promised
+pub mod Runs
 pub mod RoomBounds
 pub mod Unique
 pub mod Second
 pub mod Never8
+pub mod Eight
 pub mod Boundary
 pub mod Strict

@@ -1,4 +1,6 @@
 // The free-volume manager (seg.rs: SegmentationManager): open, dry run, book, list.
+#![tactic(auto)]
+
 ghost use Rattle.std.specs.Prelude.{◌≡◌, true};
 ghost use Rattle.free_list.specs.Granted.{Inside, Changes};
 ghost use Rattle.seg.specs.Open.{open_of, refused_opening};
@@ -15,7 +17,7 @@ use segmentation::{DelaySegment, RateSegment};
 use units::{Bundle, Date, Interval, Offer, TxData, Volume};
 
 #[repr(C)]
-#[derive(Drop)]
+#[derive(Clone, Copy)]
 pub struct FreeVolume {
     pub contact: Contact,
     pub free: FreeList,
@@ -24,7 +26,7 @@ pub struct FreeVolume {
 
 // The answer of an opening: 01's number and the record, which is zero on a refusal.
 #[repr(C)]
-#[derive(Drop)]
+#[derive(Clone, Copy)]
 pub struct Opened {
     pub number: u8,
     pub manager: FreeVolume,
@@ -32,7 +34,7 @@ pub struct Opened {
 
 // The answer of a booking: 01's number and the record, which is the one that came on a refusal.
 #[repr(C)]
-#[derive(Drop)]
+#[derive(Clone, Copy)]
 pub struct Booked {
     pub number: u8,
     pub manager: FreeVolume,
@@ -40,7 +42,7 @@ pub struct Booked {
 
 // The answer of a list: 01's number and the listed segments, none on a refusal.
 #[repr(C)]
-#[derive(Drop)]
+#[derive(Clone, Copy)]
 pub struct Listing {
     pub number: u8,
     pub list: FreeList,
@@ -48,7 +50,7 @@ pub struct Listing {
 
 // The answer of the room: 01's number and the sum of the listed volumes, 0 on a refusal.
 #[repr(C)]
-#[derive(Drop)]
+#[derive(Clone, Copy)]
 pub struct RoomLeft {
     pub number: u8,
     pub room: Volume,
