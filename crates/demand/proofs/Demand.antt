@@ -1,5 +1,5 @@
 -- Demand 3: from a fresh opening on, any calls with any answers that the manager's promises allow keep it.
-use Prim.Native.Nat.{ℕ, ◌-◌}
+use Prim.Native.Nat.{ℕ}
 use mathlib.Core.Bool.{true}
 use mathlib.Core.Path.{◌≡◌, refl, sym, ap, ◌∙◌}
 use mathlib.Core.List.{List, [], ◌∷◌}
@@ -15,6 +15,7 @@ use Rattle.contact.specs.declared.Choices.{Choices}
 use Rattle.units.specs.declared.Interval.{Interval}
 use Rattle.units.specs.declared.TxData.{TxData}
 use Rattle.units.specs.declared.Bundle.{Bundle}
+use Rattle.units.specs.declared.Offer.{Offer}
 use Rattle.units.proofs.Determined.{Met}
 use Rattle.segmentation.specs.declared.RateSegment.{RateSegment}
 use Rattle.segmentation.specs.declared.DelaySegment.{DelaySegment}
@@ -22,6 +23,7 @@ use Rattle.contact.specs.Record.{rates_of, edition_of}
 use Rattle.seg.specs.declared.FreeVolume.{FreeVolume}
 use Rattle.seg.specs.declared.Opened.{Opened}
 use Rattle.seg.specs.declared.Booked.{Booked}
+use Rattle.seg.specs.declared.Listing.{Listing}
 use Rattle.seg.specs.Record.{record_ok}
 use Rattle.seg.specs.Book.{book_of}
 use Rattle.seg.proofs.Kept.{opened-keeps, Refused, Accepted, book-cases, book-keeps}
@@ -43,6 +45,19 @@ promised =
       book = λ r at b d a. Met (book-reads.Post tt (r, (at, (b, (d, tt))))) a;
       list = λ r o. Met (list-reads.Post tt (r, tt)) o;
     }
+
+-- each is what src/ has
+pub promises-dry-run : (r : FreeVolume) (at : Date) (b : Bundle) (o : Offer) → Met (dry-run-reads.Post tt (r, (at, (b, tt)))) o → promised.dry_run r at b o
+unfolding promised
+promises-dry-run r at b o p = p
+
+pub promises-book : (r : FreeVolume) (at : Date) (b : Bundle) (d : TxData) (a : Booked) → Met (book-reads.Post tt (r, (at, (b, (d, tt))))) a → promised.book r at b d a
+unfolding promised
+promises-book r at b d a p = p
+
+pub promises-list : (r : FreeVolume) (o : Listing) → Met (list-reads.Post tt (r, tt)) o → promised.list r o
+unfolding promised
+promises-list r o p = p
 
 -- what every booking keeps, any calls keep
 module _ (P : State → Type 0) (step : (x : State) (at : Date) (b : Bundle) (d : TxData) (a : Booked) → a ≡ book_of x.manager at b d → P x → P (record { manager = a.manager; log = logged b d a x.log })) where

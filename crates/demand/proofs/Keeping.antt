@@ -1,7 +1,7 @@
 -- An accepted booking keeps what demand 3 asks, with the sum of the bookings' own capacities in place of their instants'.
 use Prim.Native.Nat.{ℕ, suc, ◌+◌, ◌-◌, ◌≤◌}
 use mathlib.Core.Bool.{true}
-use mathlib.Core.Path.{◌≡◌}
+use mathlib.Core.Path.{◌≡◌, sym, subst}
 use mathlib.Core.List.{List, [], ◌∷◌}
 use mathlib.Core.Logic.{⊎_elim}
 use native.Mathlib.Nat.{mul-suc}
@@ -17,9 +17,11 @@ use Rattle.segmentation.specs.Capacity.{capacity, top_of}
 use Rattle.segmentation.proofs.EndLaws.{Ends, lesser, greater, Near, near_first, near-second}
 use Rattle.contact.specs.Record.{rates_of, edition_of}
 use Rattle.free_list.specs.Cut.{listed, cut_of}
+use Rattle.free_list.specs.Instants.{Clear}
 use Rattle.free_list.proofs.Offered.{Offered}
 use Rattle.free_list.proofs.CutLaws.{clear_apart, cut-clear, cut-own, offered-inside, offered-ends}
 use Rattle.free_list.proofs.CutList.{listed_in}
+use Rattle.seg.specs.declared.FreeVolume.{FreeVolume}
 use Rattle.seg.specs.declared.Booked.{Booked}
 use Rattle.seg.specs.Record.{record_ok}
 use Rattle.seg.specs.Book.{book_of}
@@ -67,12 +69,16 @@ module _ (k : ℕ) (l : List VolumeSegment) (top hi s e v : ℕ) (f : List Volum
   log-apart [] c = tt
   log-apart (b ∷ log) c = (clear_apart k l top hi s e v b.send.start.0 b.send.end.0 f i c.0 h, log-apart log c.1)
 
+clear-more : (f : List VolumeSegment) (b : Booking) (log : List Booking) → Clear b.send.start.0 b.send.end.0 f → AllClear f log → AllClear f (b ∷ log)
+unfolding AllClear
+clear-more f b log h c = (h, c)
+
 module _ (x : State) (q : Keeping x) (at : Date) (b : Bundle) (d : TxData) where
   abbrev booked : Booked
   booked = book_of x.manager at b d
 
   pub accepted-keeps : Accepted x.manager at b d booked → Keeping (record { manager = booked.manager; log = entry b d ∷ x.log })
-  unfolding AllClear Pairwise AllIn cap_sum size_sum
+  unfolding Pairwise AllIn cap_sum size_sum
   accepted-keeps y =
       let r = x.manager in
       let l = rates_of r.contact in
@@ -87,10 +93,12 @@ module _ (x : State) (q : Keeping x) (at : Date) (b : Bundle) (d : TxData) where
       let n : Ends k l (top_of l) s v _ e = (offered-ends k l (top_of l) s e v f y.place o).1 in
       let w = offered-inside k l (top_of l) hi s e v f _ y.place fs.free o in
       let left = listed_in (cut_of k l f y.place s e v) in
-      record {
-        ok = book-keeps r at b d q.ok;
+      subst (λ (m : FreeVolume). Keeping (record { manager = m; log = entry b d ∷ x.log })) (sym y.manager) (record {
+        ok = rw y.manager at (book-keeps r at b d q.ok);
         apart = (log-apart k l (top_of l) hi s e v f y.place o x.log q.clear, q.apart);
-        clear = rw (y.manager, left) (cut-own k l (top_of l) hi s e v f _ y.place fs.free o, log-clear k l (top_of l) hi s e v f y.place o x.log q.clear);
-        inside = rw y.manager (w.0, n.forth, w.1, q.inside);
-        sums = rw y.manager (sums-add k (top_of l) (length x.log) (capacity l s e) v (cap_sum l x.log) (size_sum x.log) n.near q.sums);
-      }
+        clear = rw left (clear-more (cut_of k l f y.place s e v) (entry b d) x.log
+            (cut-own k l (top_of l) hi s e v f _ y.place fs.free o)
+            (log-clear k l (top_of l) hi s e v f y.place o x.log q.clear));
+        inside = (w.0, n.forth, w.1, q.inside);
+        sums = sums-add k (top_of l) (length x.log) (capacity l s e) v (cap_sum l x.log) (size_sum x.log) n.near q.sums;
+      })

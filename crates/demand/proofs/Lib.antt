@@ -4,3 +4,4 @@ pub mod Demand
 pub mod RoomAfter
 pub mod SecondAfter
 pub mod Strict
+pub mod Opened

@@ -1,3 +1,4 @@
 pub mod Calls
 pub mod Instants
 pub mod Strict
+pub mod Opened
