@@ -9,3 +9,4 @@ pub mod SearchLaws
 pub mod RunLaws
 pub mod SetList
 pub mod Unique
+pub mod FirstFit

@@ -4,9 +4,9 @@ use mathlib.Core.Path.{◌≡◌, refl, sym, ap, ◌∙◌}
 use mathlib.Core.Logic.{⊎_elim}
 use native.Mathlib.Omega.{arith}
 use native.Mathlib.Numerals.{add-one}
-use lib.Dec.{ltb}
+use lib.Dec.{ltb, ltb→lt, lt→ltb}
 use lib.IntN.{pos}
-use lib.Signed.{le_z}
+use lib.Signed.{le_z, ◌<ℤ◌, lt_z_yes}
 use borrow.Author.Tests.{le-leb, lt-leb, lt-ltb, le-ltb}
 use Rattle.units.proofs.Numbers.{le-or-lt}
 use Rattle.bookings.specs.declared.Level.{Level}
@@ -27,3 +27,12 @@ value-breaks p w = at w.0
 -- the level that a priority is booked at has the priority for its value
 pub value-of : (p : ℕ) (w : Level) → w.0 ≡ p + 1 → value_of w ≡ pos p
 value-of p w e = let k : w.0 ≡ suc p = e ∙ add-one p in ap (λ (n : ℕ). value_of (record { 0 = n })) k
+
+-- a value is below a priority exactly if its level is at most that priority
+pub level-below : (p n : ℕ) → n ≤ p → value_of (record { 0 = n }) <ℤ pos p
+level-below p zero h = lt_z_yes tt
+level-below p (suc n) h = lt_z_yes (lt→ltb n p (omega arith))
+
+pub below-level : (p n : ℕ) → value_of (record { 0 = n }) <ℤ pos p → n ≤ p
+below-level p zero h = omega arith
+below-level p (suc n) h = omega (arith, ltb→lt n p h.lt)

@@ -2,3 +2,4 @@ pub mod Listed
 pub mod Search
 pub mod Cut
 pub mod Granted
+pub mod Fits

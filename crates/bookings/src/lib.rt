@@ -1,4 +1,6 @@
 // Lists of booked time: their test, the search for a run, the setting of a booking.
+#![tactic(auto)]
+
 ghost use Rattle.std.specs.Prelude.{◌≡◌, ℕ, ◌+◌, ◌<◌, ◌≤◌, length, take, drop};
 ghost use Rattle.units.specs.Limits.{priority_max, segments_max, listed_max};
 ghost use Rattle.units.specs.Logic.{both, all_of};
@@ -16,12 +18,12 @@ pub mod cut;
 
 // One above the priority booked, 0 where nothing is: the source's -1 to 127.
 #[repr(C)]
-#[derive(Drop)]
+#[derive(Clone, Copy)]
 pub struct Level(pub u64);
 
 // Segment<i8>
 #[repr(C)]
-#[derive(Drop)]
+#[derive(Clone, Copy)]
 pub struct BookingSegment {
     pub start: Date,
     pub end: Date,
@@ -29,7 +31,7 @@ pub struct BookingSegment {
 }
 
 #[repr(C)]
-#[derive(Drop)]
+#[derive(Clone, Copy)]
 pub struct Bookings {
     pub segments: [BookingSegment; Bookings::COUNT_MAX],
     pub count: usize,
@@ -52,7 +54,7 @@ impl Level {
 }
 
 // The search for a run: nothing yet, a run whose end lies ahead, or the offer.
-#[derive(Drop)]
+#[derive(Clone, Copy)]
 pub enum Run {
     Idle,
     Going(Interval),
@@ -61,7 +63,7 @@ pub enum Run {
 
 // What a booking leaves of a segment: so many before the middle, and so many after it.
 #[repr(C)]
-#[derive(Drop)]
+#[derive(Clone, Copy)]
 pub struct Parts {
     pub before: BookingSegment,
     pub middle: BookingSegment,
@@ -72,7 +74,7 @@ pub struct Parts {
 
 // A setting's answer: 0 and the list with the booking, or 10 and the list as it came.
 #[repr(C)]
-#[derive(Drop)]
+#[derive(Clone, Copy)]
 pub struct Set {
     pub number: u8,
     pub bookings: Bookings,
