@@ -18,4 +18,4 @@ back e f = rw e (to_z-of_z f)
 
 -- a coefficient that was copied out of the array is read back as it is
 pub coefficient-back : (cs : List ℤ) (i : ℕ) → mag (coefficient cs i) < 2 ^ 63 → rd (coefficient cs i) ≡ coefficient cs i
-coefficient-back cs i h = to_z-of_z (record { sfits = h })
+coefficient-back cs i h = to_z-of_z {w = w64} (record { sfits = h })

@@ -1,7 +1,7 @@
 -- What the halving answers, of any function: a date at which the target is reached, and one tick earlier it is not, unless it is met exactly.
 use Prim.Native.Nat.{ℕ, ◌+◌, ◌-◌, ◌≤◌, ◌<◌}
 use mathlib.Core.Bool.{true, false}
-use mathlib.Core.Path.{◌≡◌, sym, ◌∙◌, ap}
+use mathlib.Core.Path.{◌≡◌, refl, sym, ◌∙◌, ap}
 use mathlib.Core.Logic.{⊎_elim, ◌⊎◌, inl, inr}
 use native.Mathlib.Nat.{le_refl, eq-or-lt_of_le}
 use native.Mathlib.Omega.{arith}
@@ -37,11 +37,14 @@ module _ (f : ℕ → ℤ) (t : ℤ) where
   halves-after {low} {top} lt s (hit a p _) = omega (arith, apart low (middle low top) s p)
 
   -- never past the last date, which reaches the target
+  by_top : {low top z r : ℕ} → low ≤ top → lt_z (f top) t ≡ false → Halves f t low z r → z ≡ top + 1 → r ≤ top
+  by_top le s (empty a) e = absurd (omega arith)
+  by_top {low} {top} {z} le s (up a p h) e = by_top (omega (arith, apart (middle low z) top p s)) s h e
+  by_top le s (down a _ _ h) e = omega (arith, halves-top (omega arith) h)
+  by_top le s (hit a _ _) e = omega arith
+
   pub halves-by : {low top r : ℕ} → low ≤ top → lt_z (f top) t ≡ false → Halves f t low (top + 1) r → r ≤ top
-  halves-by le s (empty a) = absurd (omega arith)
-  halves-by {low} {top} le s (up a p h) = halves-by (omega (arith, apart (middle low (top + 1)) top p s)) s h
-  halves-by le s (down a _ _ h) = omega (arith, halves-top (omega arith) h)
-  halves-by le s (hit a _ _) = omega arith
+  halves-by le s h = by_top le s h refl
 
   -- the target is reached
   pub halves-reach : {low top r : ℕ} → Halves f t low top r → r < top → lt_z (f r) t ≡ false

@@ -1,4 +1,6 @@
 // The capacity polynomial (poly.rs: Polynome) in its two modes: its range rule, and its terms, over which the end is searched.
+#![tactic(auto)]
+
 ghost use Rattle.std.specs.Prelude.{◌≡◌, ◌+◌, ◌-◌, ◌*◌, ◌<◌, ◌≤◌, ◌^◌, min, nat_abs};
 ghost use Rattle.units.specs.Limits.{volume_max};
 ghost use Rattle.poly.specs.Poly.{step_max, term_of, range_ok, coefficients_ok, poly_ok};
@@ -13,7 +15,7 @@ pub mod terms;
 
 // How capacity is counted: 1 is the source's, 2 is the exact integral, in twelfths.
 #[repr(C)]
-#[derive(Drop)]
+#[derive(Clone, Copy)]
 pub struct Mode(pub u64);
 
 impl Mode {
@@ -62,7 +64,7 @@ impl Mode {
 }
 
 #[repr(C)]
-#[derive(Drop)]
+#[derive(Clone, Copy)]
 pub struct Polynome {
     pub coefficients: [i64; Polynome::COEFFICIENTS],
     pub offset: Date,

@@ -9,7 +9,7 @@ use segmentation::End;
 use units::{Date, Interval};
 
 // Formed once for a search, so that its steps neither divide nor ask for the mode.
-#[derive(Drop)]
+#[derive(Clone, Copy)]
 pub struct Terms {
     pub each: [i64; Terms::COUNT],
     pub offset: Date,
