@@ -5,7 +5,11 @@ pub mod Offers
 pub mod Moves
 pub mod Answers
 pub mod Kept
+pub mod Promised
+pub mod Runs
 pub mod Inverse
 pub mod Unique
 pub mod Reach
+pub mod RunsReach
 pub mod Strict
+pub mod Order

@@ -164,7 +164,7 @@ never-13 r q at b d =
     (λ o auto e. omega (arith, put-done r b (stepped r q) at d o auto)) (λ e. omega arith)
 
 -- a valid record: its first queue is full, and a booking of class 1 answers 13
-abbrev full : Queue
+abbrev pub full : Queue
 full =
     record {
       choices = ported;
@@ -177,7 +177,7 @@ full =
       budgets = replicate classes_max (record { 0 = 0 });
     }
 
-abbrev load : Bundle
+abbrev pub load : Bundle
 load = record { size = record { 0 = 25 }; priority = record { 0 = 1 } }
 
 pub full-ok : record_ok full ≡ true

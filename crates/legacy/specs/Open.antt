@@ -9,7 +9,6 @@ use Rattle.units.specs.Limits.{rate_max, volume_max, delay_max, window_ok}
 use Rattle.units.specs.Answer.{interval}
 use Rattle.legacy.specs.declared.Choices.{Choices}
 use Rattle.legacy.specs.declared.Flags.{Flags}
-use Rattle.legacy.specs.declared.Queue.{Queue}
 use Rattle.legacy.specs.declared.Opened.{Opened}
 use Rattle.legacy.specs.Choices.{unchosen, choices_ok}
 

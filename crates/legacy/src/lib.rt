@@ -1,4 +1,6 @@
 // The queue manager (legacy/mod.rs: LegacyManager): open, dry run, book, list, and manual queueing.
+#![tactic(auto)]
+
 ghost use Rattle.std.specs.Prelude.{◌≡◌, true, ◌+◌, ◌<◌, ◌≤◌};
 ghost use Rattle.units.specs.Limits.{date_max, volume_max, window_ok};
 ghost use Rattle.legacy.specs.Choices.{ported, choices_ok};
@@ -15,7 +17,7 @@ pub mod volumes;
 
 // What an opening chooses and the record names: the strict flag.
 #[repr(C)]
-#[derive(Drop)]
+#[derive(Clone, Copy)]
 pub struct Choices {
     pub strict: Strict,
 }
@@ -40,7 +42,7 @@ impl Choices {
 }
 
 #[repr(C)]
-#[derive(Drop)]
+#[derive(Clone, Copy)]
 pub struct Flags {
     pub add_delay: bool,
     pub self_update: bool,
@@ -48,7 +50,7 @@ pub struct Flags {
 }
 
 #[repr(C)]
-#[derive(Drop)]
+#[derive(Clone, Copy)]
 pub struct Queue {
     pub choices: Choices,
     pub window: Interval,
@@ -62,7 +64,7 @@ pub struct Queue {
 
 // The answer of an opening: 01's number and the record, which is zero on a refusal.
 #[repr(C)]
-#[derive(Drop)]
+#[derive(Clone, Copy)]
 pub struct Opened {
     pub number: u8,
     pub manager: Queue,
@@ -70,7 +72,7 @@ pub struct Opened {
 
 // The answer of a booking or of manual queueing: 01's number and the record, which is the one that came on a refusal.
 #[repr(C)]
-#[derive(Drop)]
+#[derive(Clone, Copy)]
 pub struct Booked {
     pub number: u8,
     pub manager: Queue,
@@ -78,7 +80,7 @@ pub struct Booked {
 
 // The answer of a list: 01's number, the class count and each class's queue, zero on a refusal.
 #[repr(C)]
-#[derive(Drop)]
+#[derive(Clone, Copy)]
 pub struct Listing {
     pub number: u8,
     pub classes: usize,

@@ -1,0 +1,31 @@
+-- `legacy::Queue::enqueue_kept` meets its contract: each test that fails has its refusal.
+use mathlib.Core.Bool.{true}
+use mathlib.Core.Path.{◌≡◌, sym, ◌∙◌}
+use Rattle.units.specs.Limits.{load_ok}
+use Rattle.units.proofs.Logic.{unless-go, unless-stop}
+use Rattle.units.proofs.Choice.{pick_yes, pick_no, told-yes, told-no}
+use Rattle.units.proofs.Loads.{load}
+use Rattle.legacy.specs.Queueing.{enqueue_of}
+use Rattle.legacy.proofs.Queue.enqueue_kept.Goals as goal
+use Rattle.legacy.proofs.Queue.enqueue_kept.Goals.{Else-not-ok}
+
+pub returns-then-not-ok : goal.returns-then-not-ok
+unfolding enqueue_of
+returns-then-not-ok c =
+    c.refused_queueing.ensures ∙ sym (unless-go _ _ _ c.requires ∙ unless-stop _ _ _ (told-no c.ok.ensures c.if-not-ok.true))
+
+fair : (c : Else-not-ok) → load_ok c.args.bundle ≡ true
+fair c = told-yes c.ok.ensures c.if-not-ok.false
+
+pub returns-then-self_update : goal.returns-then-self_update
+unfolding enqueue_of
+returns-then-self_update c =
+    c.refused_queueing-then-self_update.ensures ∙ sym (unless-go _ _ _ c.requires ∙ unless-go _ _ _ (fair (goal.at.returns-then-self_update c).Else-not-ok) ∙ pick_yes _ _ _ c.if-self_update.true)
+
+pub put-requires : goal.put-requires
+put-requires c = record { fact_1 = c.requires; fact_2 = (load _ (fair (goal.at.put-requires c).Else-not-ok)).size }
+
+pub returns : goal.returns
+unfolding enqueue_of
+returns c =
+    c.put.ensures ∙ sym (unless-go _ _ _ c.requires ∙ unless-go _ _ _ (fair (goal.at.returns c).Else-not-ok) ∙ pick_no _ _ _ c.if-self_update.false)
