@@ -2,11 +2,8 @@
 use Prim.Native.Nat.{ℕ}
 use mathlib.Core.Bool.{true, false}
 use mathlib.Core.Path.{◌≡◌, refl, sym, ap, ◌∙◌}
-use mathlib.Core.Logic.{◌⊎◌, inl, inr}
-use native.Mathlib.Omega.{arith}
 use lib.Dec.{leb}
 use lib.ListN.{length}
-use denote.Enum.Declared.{tag_of}
 use Rattle.units.specs.declared.Date.{Date}
 use Rattle.units.specs.declared.Interval.{Interval}
 use Rattle.units.specs.declared.TxData.{TxData}
@@ -21,7 +18,6 @@ use Rattle.bookings.specs.declared.Run.TheVariants.{Idle, Going, Sent}
 use Rattle.bookings.specs.declared.Set.{Set}
 use Rattle.bookings.specs.Listed.{listed}
 use Rattle.bookings.specs.Cut.{set_of, set_bookings}
-use Rattle.bookings.specs.contracts.Run.{the_type}
 use Rattle.pseg.specs.declared.PrioritySeg.{PrioritySeg}
 use Rattle.pseg.specs.Record.{record_ok}
 use Rattle.pseg.specs.DryRun.{dry_run_of, run_of, answer_to}
@@ -34,9 +30,8 @@ Unsent (Going send) = Unit
 Unsent Idle = Unit
 
 -- the code's test of the variant tells it
-pub unsent : (x : Run) → (tag_of the_type x ≡ 0) ⊎ (tag_of the_type x ≡ 1) → Unsent x
-unsent (Sent send) (inl e) = let z : ◌≡◌ {A = ℕ} 2 0 = e in omega arith
-unsent (Sent send) (inr e) = let z : ◌≡◌ {A = ℕ} 2 1 = e in omega arith
+pub unsent : (x : Run) → ((send : Interval) → x ≡ Sent send → ⊥) → Unsent x
+unsent (Sent send) e = e send refl
 unsent (Going send) e = tt
 unsent Idle e = tt
 

@@ -2,8 +2,14 @@ pub mod Facts
 pub mod Calls
 pub mod ByDryRun
 pub mod Kept
+pub mod Promised
+pub mod Runs
+pub mod Ranked
 pub mod Unique
+pub mod InRange
 pub mod Second
 pub mod Never8
+pub mod Eight
 pub mod Boundary
 pub mod Strict
+pub mod FirstFit

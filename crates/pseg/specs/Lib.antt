@@ -4,3 +4,5 @@ pub mod DryRun
 pub mod Book
 pub mod Strict
 pub mod List
+pub mod FirstOffer
+pub mod Ranked

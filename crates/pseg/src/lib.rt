@@ -1,4 +1,6 @@
 // The priority manager (pseg.rs: PSegmentationManager): open, dry run, book, list.
+#![tactic(auto)]
+
 ghost use Rattle.std.specs.Prelude.{◌≡◌, true, List, [], ◌∷◌, ◌≤◌};
 ghost use Rattle.units.specs.Limits.{priority_max};
 ghost use Rattle.pseg.specs.Open.{open_of, refused_opening, list_in, whole_window};
@@ -13,7 +15,7 @@ use segmentation::{DelaySegment, RateSegment};
 use units::{Bundle, Date, Interval, Offer, Priority, TxData};
 
 #[repr(C)]
-#[derive(Drop)]
+#[derive(Clone, Copy)]
 pub struct PrioritySeg {
     pub contact: Contact,
     pub bookings: Bookings,
@@ -21,7 +23,7 @@ pub struct PrioritySeg {
 
 // The answer of an opening: 01's number and the record, which is zero on a refusal.
 #[repr(C)]
-#[derive(Drop)]
+#[derive(Clone, Copy)]
 pub struct Opened {
     pub number: u8,
     pub manager: PrioritySeg,
@@ -29,7 +31,7 @@ pub struct Opened {
 
 // The answer of a booking: 01's number and the record, which is the one that came on a refusal.
 #[repr(C)]
-#[derive(Drop)]
+#[derive(Clone, Copy)]
 pub struct Booked {
     pub number: u8,
     pub manager: PrioritySeg,
@@ -37,7 +39,7 @@ pub struct Booked {
 
 // The answer of a list: 01's number and the listed segments, none on a refusal.
 #[repr(C)]
-#[derive(Drop)]
+#[derive(Clone, Copy)]
 pub struct Listing {
     pub number: u8,
     pub list: Bookings,
