@@ -5,9 +5,14 @@ pub mod Opening
 pub mod Facts
 pub mod Counting
 pub mod Calls
+pub mod Order
 pub mod Kept
+pub mod Promised
+pub mod Runs
+pub mod Disjoint
 pub mod Exact
 pub mod Never8
+pub mod Eight
 pub mod Boundary
 pub mod Unique
 pub mod Strict

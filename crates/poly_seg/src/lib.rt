@@ -1,4 +1,6 @@
 // The polynomial manager (poly_seg.rs: PolySegManager): open, dry run, book, list.
+#![tactic(auto)]
+
 ghost use Rattle.std.specs.Prelude.{◌≡◌, true, [], ◌≤◌, take, drop};
 ghost use Rattle.units.specs.Limits.{date_max, volume_max, listed_max, window_ok};
 ghost use Rattle.units.specs.Logic.{both, all_of};
@@ -23,7 +25,7 @@ use units::{Bundle, Date, Delay, Interval, Offer, Strict, TxData, Volume};
 
 // What an opening chooses and the record names: the mode in which capacity is counted, the rule of the delays and the strict flag.
 #[repr(C)]
-#[derive(Drop)]
+#[derive(Clone, Copy)]
 pub struct Choices {
     pub mode: Mode,
     pub rule: Rule,
@@ -58,7 +60,7 @@ impl Choices {
 }
 
 #[repr(C)]
-#[derive(Drop)]
+#[derive(Clone, Copy)]
 pub struct PolySeg {
     pub choices: Choices,
     pub window: Interval,
@@ -70,7 +72,7 @@ pub struct PolySeg {
 
 // The answer of an opening: 01's number and the record, which is zero on a refusal.
 #[repr(C)]
-#[derive(Drop)]
+#[derive(Clone, Copy)]
 pub struct Opened {
     pub number: u8,
     pub manager: PolySeg,
@@ -78,7 +80,7 @@ pub struct Opened {
 
 // The answer of a booking: 01's number and the record, which is the one that came on a refusal.
 #[repr(C)]
-#[derive(Drop)]
+#[derive(Clone, Copy)]
 pub struct Booked {
     pub number: u8,
     pub manager: PolySeg,
@@ -86,7 +88,7 @@ pub struct Booked {
 
 // The answer of a list: 01's number and the listed segments, none on a refusal.
 #[repr(C)]
-#[derive(Drop)]
+#[derive(Clone, Copy)]
 pub struct Listing {
     pub number: u8,
     pub list: FreeList,

@@ -1,0 +1,11 @@
+-- `poly_seg::PolySeg::cut` meets its contract: the list's cut, with no rates.
+use native.Mathlib.Omega.{arith}
+use Rattle.segmentation.specs.Granted.{Run}
+use Rattle.poly_seg.proofs.PolySeg.cut.Goals as goal
+
+pub cut-requires : goal.cut-requires
+unfolding Run
+cut-requires c = record { fact_1 = omega arith; fact_2 = record { from = 0; run = tt }; fact_3 = c.requires }
+
+pub returns : goal.returns
+returns c = c.cut.ensures

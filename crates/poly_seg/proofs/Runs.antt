@@ -1,0 +1,101 @@
+-- After any calls from an opening on: the record keeps its rules, so no call on it answers 1; its window, polynomial, delays and choices are those that were opened.
+use Prim.Native.Nat.{ℕ}
+use mathlib.Core.Bool.{true}
+use mathlib.Core.Path.{◌≡◌, refl, sym, ap, ◌∙◌}
+use mathlib.Core.List.{List, ◌∷◌}
+use mathlib.Core.Logic.{⊎_elim, inl, inr}
+use native.Mathlib.Omega.{arith}
+use lib.ListN.{take}
+use Rattle.units.specs.declared.Date.{Date}
+use Rattle.units.specs.declared.Interval.{Interval}
+use Rattle.units.specs.declared.TxData.{TxData}
+use Rattle.units.specs.declared.Bundle.{Bundle}
+use Rattle.units.specs.Limits.{segments_max}
+use Rattle.units.specs.Arrays.{padded}
+use Rattle.units.specs.Logged.{State, entry, Runs, Never}
+use Rattle.units.proofs.Logic.{no_both}
+use Rattle.units.proofs.Logged.{run-accepted}
+use Rattle.units.proofs.Tables.{tables-never}
+use Rattle.segmentation.specs.declared.DelaySegment.{DelaySegment}
+use Rattle.segmentation.proofs.Answered.{answer-number as answered-number}
+use Rattle.contact.specs.Segments.{zero_delay}
+use Rattle.free_list.specs.declared.Found.{Found}
+use Rattle.free_list.specs.declared.Found.TheVariants.{At, None}
+use Rattle.poly.specs.declared.Polynome.{Polynome}
+use Rattle.poly_seg.specs.declared.Choices.{Choices}
+use Rattle.poly_seg.specs.declared.PolySeg.{PolySeg}
+use Rattle.poly_seg.specs.declared.Opened.{Opened}
+use Rattle.poly_seg.specs.Record.{record_ok, delays_at}
+use Rattle.poly_seg.specs.Open.{open_of}
+use Rattle.poly_seg.specs.DryRun.{found_of, answer_to}
+use Rattle.poly_seg.specs.Book.{book_of, refused_booking}
+use Rattle.poly_seg.specs.List.{list_of}
+use Rattle.poly_seg.proofs.Kept.{opened-keeps, opened-manager, Refused, Accepted, book-cases, book-keeps}
+use Rattle.poly_seg.proofs.Calls.{booked-number}
+use Rattle.poly_seg.proofs.Promised.{promised, tables, Reached}
+
+-- what every accepted booking keeps of records that keep their rules, any calls keep: a refused booking changes nothing
+module _ (P : State PolySeg → Type 0) (ok : (x : State PolySeg) → P x → record_ok x.manager ≡ true)
+    (step : (x : State PolySeg) (q : P x) (at : Date) (b : Bundle) (d : TxData) → Accepted x.manager at b d (book_of x.manager at b d)
+    → P (record { manager = (book_of x.manager at b d).manager; log = entry b d ∷ x.log })) where
+  pub run-booked : (x y : State PolySeg) → P x → Runs promised x y → P y
+  run-booked =
+      run-accepted promised P (λ r at b d a. (a ≡ book_of r at b d) × Accepted r at b d (book_of r at b d))
+      (λ x q at b d a p.
+      ⊎_elim
+      (λ (r : Refused x.manager (book_of x.manager at b d)). inl (rw p.1 (r.number, r.same)))
+      (λ (y : Accepted x.manager at b d (book_of x.manager at b d)). inr (rw p.1 y.number, (p.1, y)))
+      (book-cases x.manager at b d (ok x q)))
+      (λ x q at b d a y. rw y.0 (step x q at b d y.1))
+      (λ r a p. p)
+
+-- what a record has besides its list
+abbrev pub opened : PolySeg → Choices × Interval × Polynome × (List DelaySegment) × ℕ
+opened r = (r.choices, r.window, r.polynome, r.delays, r.delay_count)
+
+-- no call changes it
+pub run-figures : (x y : State PolySeg) → record_ok x.manager ≡ true → Runs promised x y → (record_ok y.manager ≡ true) × (opened y.manager ≡ opened x.manager)
+run-figures x y ok runs =
+    run-booked (λ z. (record_ok z.manager ≡ true) × (opened z.manager ≡ opened x.manager))
+    (λ z q. q.0)
+    (λ z q at b d k. (book-keeps z.manager at b d q.0, ap opened k.manager ∙ q.1))
+    x y (ok, refl) runs
+
+-- an answer's own numbers are 0, 7 and 8
+answer-number : (r : PolySeg) (n : ℕ) → (n ≡ 0 → ⊥) × (n ≡ 7 → ⊥) × (n ≡ 8 → ⊥) → (f : Found) → (answer_to r f).number ≡ n → ⊥
+answer-number r n other (At i send) h = answered-number n (other.0, other.2) _ _ (delays_at r send.start.0 send.end.0) h
+answer-number r n other None h = other.1 (sym h)
+
+-- no call on a record that keeps its rules answers 1
+module _ (r : PolySeg) (ok : record_ok r ≡ true) where
+  pub kept-never-1 : Never promised 1 r
+  unfolding tables list_of
+  kept-never-1 =
+      tables-never promised refused_booking tables 1 r
+      (λ no one. no_both ok no)
+      (λ e. omega arith, λ e. omega arith, λ e. omega arith)
+      (λ at b kept fits e. answer-number r 1 (λ z. omega arith, λ z. omega arith, λ z. omega arith) (found_of r at.0 b.size.0) e)
+      (λ at b e. booked-number r 1 (λ z. omega arith, λ z. omega arith, λ z. omega arith) (found_of r at.0 b.size.0) e)
+      (rw ok (λ e. omega arith))
+      (λ a p e. p)
+
+-- from an opening on
+module _ {h : Choices} {w : Interval} {p : Polynome} {delays : List DelaySegment} {k : ℕ} {y : State PolySeg} (q : Reached h w p delays k y) where
+  pub fresh-none : (open_of h w p delays k).number ≡ 0
+  fresh-none = sym (ap (λ (x : Opened). x.number) q.met.1) ∙ q.accepted
+
+  pub fresh_ok : record_ok q.opened.manager ≡ true
+  fresh_ok = rw q.met.1 (opened-keeps h w p delays k q.delay-size fresh-none)
+
+  -- the record keeps its rules
+  pub reached-ok : record_ok y.manager ≡ true
+  reached-ok = (run-figures _ y fresh_ok q.runs).0
+
+  -- so no sequence of calls meets 1
+  pub reached-never-1 : Never promised 1 y.manager
+  reached-never-1 = kept-never-1 y.manager reached-ok
+
+  -- window, polynomial, delays and choices are the opening's
+  pub reached-figures : opened y.manager ≡ (h, w, p, padded segments_max zero_delay (take k delays), k)
+  reached-figures =
+      (run-figures _ y fresh_ok q.runs).1 ∙ ap (λ (x : Opened). opened x.manager) q.met.1 ∙ ap opened (opened-manager h w p delays k q.delay-size fresh-none)
