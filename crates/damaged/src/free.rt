@@ -4,10 +4,11 @@ use contact::Contact;
 use free_list::FreeList;
 use seg::FreeVolume;
 use segmentation::{DelaySegment, Edition, RateSegment, Rule, VolumeSegment};
+use std::io;
 use units::{Bundle, Date, Delay, Interval, Priority, Rate, Strict, TxData, Volume};
 
 // At 3, size 15: on contact [0,10), rate 10, delay 3 the offer is send 3,4, receive 6,7.
-fn report(label: u8, r: FreeVolume) {
+fn report(rt: &impl Print, label: u8, r: FreeVolume) -> io::Result<()> {
     let at = Date(3);
     let bundle = Bundle {
         size: Volume(15),
@@ -27,13 +28,13 @@ fn report(label: u8, r: FreeVolume) {
     let o = r.dry_run(at, bundle);
     let b = r.book(at, bundle, dates);
     let l = r.list();
-    out::line(102, label, good, o.number, b.number, l.number);
+    out::line(rt, 102, label, good, o.number, b.number, l.number)?;
     let left = r.room();
-    out::figure(114, label, left.number, left.room.0);
+    out::figure(rt, 114, label, left.number, left.room.0)
 }
 
 // At 5, size 9: the offer is send 5,5, receive 8,8.
-fn briefly(label: u8, r: FreeVolume) {
+fn briefly(rt: &impl Print, label: u8, r: FreeVolume) -> io::Result<()> {
     let at = Date(5);
     let bundle = Bundle {
         size: Volume(9),
@@ -53,7 +54,7 @@ fn briefly(label: u8, r: FreeVolume) {
     let o = r.dry_run(at, bundle);
     let b = r.book(at, bundle, dates);
     let l = r.list();
-    out::line(115, label, good, o.number, b.number, l.number);
+    out::line(rt, 115, label, good, o.number, b.number, l.number)
 }
 
 fn fresh() -> FreeVolume {
@@ -230,104 +231,111 @@ fn named(r: FreeVolume, edition: u64, rule: u64, strict: u64) -> FreeVolume {
     }
 }
 
-fn free_lists(r: FreeVolume) {
+fn free_lists(rt: &impl Print, r: FreeVolume) -> io::Result<()> {
     let whole = segment(0, 10, 100);
     let zero = segment(0, 0, 0);
     // valid: as opened; two segments apart; empty ones; less than the capacity
-    report(97, r);
-    report(98, listing(r, segment(0, 3, 30), segment(4, 10, 60), 2));
-    report(99, listing(r, segment(0, 0, 0), segment(1, 10, 90), 2));
-    report(100, listing(r, segment(0, 10, 15), zero, 1));
+    report(rt, 97, r)?;
+    report(rt, 98, listing(r, segment(0, 3, 30), segment(4, 10, 60), 2))?;
+    report(rt, 99, listing(r, segment(0, 0, 0), segment(1, 10, 90), 2))?;
+    report(rt, 100, listing(r, segment(0, 10, 15), zero, 1))?;
     // no segment, too many, a count beyond the places, a second one that is unused
-    report(65, listing(r, whole, zero, 0));
-    report(66, listing(r, whole, zero, over::LISTED));
-    report(67, listing(r, whole, zero, 18_446_744_073_709_551_615));
-    report(68, listing(r, whole, zero, 2));
+    report(rt, 65, listing(r, whole, zero, 0))?;
+    report(rt, 66, listing(r, whole, zero, over::LISTED))?;
+    report(rt, 67, listing(r, whole, zero, 18_446_744_073_709_551_615))?;
+    report(rt, 68, listing(r, whole, zero, 2))?;
     // touching, out of order, backward, past the window, above the capacity
-    report(69, listing(r, segment(0, 3, 30), segment(3, 10, 70), 2));
-    report(70, listing(r, segment(4, 10, 60), segment(0, 3, 30), 2));
-    report(71, listing(r, segment(5, 4, 0), zero, 1));
-    report(72, listing(r, segment(0, 11, 100), zero, 1));
-    report(73, listing(r, segment(0, 10, 101), zero, 1));
-    report(74, listing(r, segment(0, 3, 31), segment(4, 10, 60), 2));
+    report(rt, 69, listing(r, segment(0, 3, 30), segment(3, 10, 70), 2))?;
+    report(rt, 70, listing(r, segment(4, 10, 60), segment(0, 3, 30), 2))?;
+    report(rt, 71, listing(r, segment(5, 4, 0), zero, 1))?;
+    report(rt, 72, listing(r, segment(0, 11, 100), zero, 1))?;
+    report(rt, 73, listing(r, segment(0, 10, 101), zero, 1))?;
+    report(rt, 74, listing(r, segment(0, 3, 31), segment(4, 10, 60), 2))?;
     // something in an unused place: a start, an end, a volume
-    report(75, listing(r, whole, segment(1, 0, 0), 1));
-    report(76, listing(r, whole, segment(0, 1, 0), 1));
-    report(77, listing(r, whole, segment(0, 0, 1), 1));
+    report(rt, 75, listing(r, whole, segment(1, 0, 0), 1))?;
+    report(rt, 76, listing(r, whole, segment(0, 1, 0), 1))?;
+    report(rt, 77, listing(r, whole, segment(0, 0, 1), 1))?;
     // a room that is not the sum: one less, one more, none, the largest
-    report(52, roomed(r, 99));
-    report(53, roomed(r, 101));
-    report(54, roomed(r, 0));
-    report(55, roomed(r, 18_446_744_073_709_551_615));
+    report(rt, 52, roomed(r, 99))?;
+    report(rt, 53, roomed(r, 101))?;
+    report(rt, 54, roomed(r, 0))?;
+    report(rt, 55, roomed(r, 18_446_744_073_709_551_615))
 }
 
-fn contacts(r: FreeVolume) {
+fn contacts(rt: &impl Print, r: FreeVolume) -> io::Result<()> {
     let rate = segment(0, 10, 100);
     let zero = segment(0, 0, 0);
     let nil = delay(0, 0, 0);
     let three = delay(0, 10, 3);
     // windows: empty, backward, too long, past the last date
-    report(78, windowed(r, 10, 10));
-    report(79, windowed(r, 10, 0));
-    report(80, windowed(r, 0, over::LENGTH));
-    report(81, windowed(r, over::LATE, over::DATE));
+    report(rt, 78, windowed(r, 10, 10))?;
+    report(rt, 79, windowed(r, 10, 0))?;
+    report(rt, 80, windowed(r, 0, over::LENGTH))?;
+    report(rt, 81, windowed(r, over::LATE, over::DATE))?;
     // rates: counts, a gap, short, not a multiple of the length, a total above its limit, an unused place
-    report(82, rated(r, rate, zero, 0));
-    report(83, rated(r, rate, zero, over::SEGMENTS));
-    report(84, rated(r, segment(0, 5, 50), segment(6, 10, 40), 2));
-    report(85, rated(r, segment(0, 9, 90), zero, 1));
-    report(86, rated(r, segment(0, 10, 101), zero, 1));
-    report(87, rated(r, segment(0, 10, over::VOLUME_OF_TEN), zero, 1));
-    report(88, rated(r, rate, segment(0, 0, 1), 1));
+    report(rt, 82, rated(r, rate, zero, 0))?;
+    report(rt, 83, rated(r, rate, zero, over::SEGMENTS))?;
+    report(rt, 84, rated(r, segment(0, 5, 50), segment(6, 10, 40), 2))?;
+    report(rt, 85, rated(r, segment(0, 9, 90), zero, 1))?;
+    report(rt, 86, rated(r, segment(0, 10, 101), zero, 1))?;
+    report(
+        rt,
+        87,
+        rated(r, segment(0, 10, over::VOLUME_OF_TEN), zero, 1),
+    )?;
+    report(rt, 88, rated(r, rate, segment(0, 0, 1), 1))?;
     // valid: two rate segments of the same rate
-    report(101, rated(r, segment(0, 5, 50), segment(5, 10, 50), 2));
+    report(rt, 101, rated(r, segment(0, 5, 50), segment(5, 10, 50), 2))?;
     // delays: counts, a gap, an empty one, above its limit, an unused place
-    report(89, delayed(r, three, nil, 0));
-    report(90, delayed(r, three, nil, over::SEGMENTS));
-    report(48, delayed(r, delay(0, 5, 3), delay(6, 10, 3), 2));
-    report(49, delayed(r, delay(0, 0, 3), delay(0, 10, 3), 2));
-    report(50, delayed(r, delay(0, 10, over::DELAY), nil, 1));
-    report(51, delayed(r, three, delay(0, 0, 1), 1));
+    report(rt, 89, delayed(r, three, nil, 0))?;
+    report(rt, 90, delayed(r, three, nil, over::SEGMENTS))?;
+    report(rt, 48, delayed(r, delay(0, 5, 3), delay(6, 10, 3), 2))?;
+    report(rt, 49, delayed(r, delay(0, 0, 3), delay(0, 10, 3), 2))?;
+    report(rt, 50, delayed(r, delay(0, 10, over::DELAY), nil, 1))?;
+    report(rt, 51, delayed(r, three, delay(0, 0, 1), 1))?;
     // valid: two delay segments
-    report(102, delayed(r, delay(0, 5, 3), delay(5, 10, 3), 2));
+    report(rt, 102, delayed(r, delay(0, 5, 3), delay(5, 10, 3), 2))
 }
 
-fn choosing(r: FreeVolume) {
+fn choosing(rt: &impl Print, r: FreeVolume) -> io::Result<()> {
     // valid: edition 2, in which the send is 3,5, so that the booking stated is not offered
-    report(103, named(r, Edition::SECOND, Rule::FIRST, Strict::OFF));
+    report(rt, 103, named(r, Edition::SECOND, Rule::FIRST, Strict::OFF))?;
     // editions: none, one too many, the largest
-    report(56, named(r, 0, Rule::FIRST, Strict::OFF));
-    report(57, named(r, over::EDITION, Rule::FIRST, Strict::OFF));
+    report(rt, 56, named(r, 0, Rule::FIRST, Strict::OFF))?;
+    report(rt, 57, named(r, over::EDITION, Rule::FIRST, Strict::OFF))?;
     report(
+        rt,
         35,
         named(r, 18_446_744_073_709_551_615, Rule::FIRST, Strict::OFF),
-    );
+    )?;
     // valid: rule 2, which has the same delay of these dates; rules: none, one too many, 255, the largest
-    report(104, named(r, Edition::FIRST, Rule::SECOND, Strict::OFF));
-    report(36, named(r, Edition::FIRST, 0, Strict::OFF));
-    report(37, named(r, Edition::FIRST, over::RULE, Strict::OFF));
-    report(38, named(r, Edition::FIRST, 255, Strict::OFF));
+    report(rt, 104, named(r, Edition::FIRST, Rule::SECOND, Strict::OFF))?;
+    report(rt, 36, named(r, Edition::FIRST, 0, Strict::OFF))?;
+    report(rt, 37, named(r, Edition::FIRST, over::RULE, Strict::OFF))?;
+    report(rt, 38, named(r, Edition::FIRST, 255, Strict::OFF))?;
     report(
+        rt,
         39,
         named(r, Edition::FIRST, 18_446_744_073_709_551_615, Strict::OFF),
-    );
+    )?;
     // valid: strict, which answers the same of a send that lasts; flags: one too many, 255, the largest
     let strict = named(r, Edition::FIRST, Rule::FIRST, Strict::ON);
-    report(105, strict);
-    report(40, named(r, Edition::FIRST, Rule::FIRST, over::STRICT));
-    report(41, named(r, Edition::FIRST, Rule::FIRST, 255));
+    report(rt, 105, strict)?;
+    report(rt, 40, named(r, Edition::FIRST, Rule::FIRST, over::STRICT))?;
+    report(rt, 41, named(r, Edition::FIRST, Rule::FIRST, 255))?;
     report(
+        rt,
         42,
         named(r, Edition::FIRST, Rule::FIRST, 18_446_744_073_709_551_615),
-    );
+    )?;
     // a send of zero length is booked with the flag off, 17 with it on
-    briefly(97, r);
-    briefly(105, strict);
+    briefly(rt, 97, r)?;
+    briefly(rt, 105, strict)
 }
 
-pub fn run() {
+pub fn run(rt: &impl Print) -> io::Result<()> {
     let r = fresh();
-    free_lists(r);
-    contacts(r);
-    choosing(r);
+    free_lists(rt, r)?;
+    contacts(rt, r)?;
+    choosing(rt, r)
 }

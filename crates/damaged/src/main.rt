@@ -1,4 +1,6 @@
 // Records built to break a rule, and valid ones at the border of one: what every call of each manager answers.
+#![tactic(auto)]
+
 pub mod choices;
 pub mod free;
 pub mod out;
@@ -7,9 +9,11 @@ pub mod polynomial;
 pub mod priority;
 pub mod queue;
 
-fn main() {
-    free::run();
-    priority::run();
-    polynomial::run();
-    queue::run();
+use std::io;
+
+fn main(rt: HostRuntime) -> io::Result<()> {
+    free::run(&rt)?;
+    priority::run(&rt)?;
+    polynomial::run(&rt)?;
+    queue::run(&rt)
 }

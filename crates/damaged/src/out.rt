@@ -1,4 +1,6 @@
 // A line for each record: the manager's letter, the record's, then whether it keeps its rules and the calls' numbers.
+use std::io;
+
 fn digit(n: u8) -> u8 {
     n % 10 + 48
 }
@@ -7,7 +9,15 @@ fn tens(n: u8) -> u8 {
     n / 10 % 10 + 48
 }
 
-pub fn line(manager: u8, label: u8, good: bool, dry_run: u8, book: u8, list: u8) {
+pub fn line(
+    rt: &impl Print,
+    manager: u8,
+    label: u8,
+    good: bool,
+    dry_run: u8,
+    book: u8,
+    list: u8,
+) -> io::Result<()> {
     let yes: u8 = if good { 1 } else { 0 };
     let text = [
         manager,
@@ -25,11 +35,11 @@ pub fn line(manager: u8, label: u8, good: bool, dry_run: u8, book: u8, list: u8)
         digit(list),
         10,
     ];
-    io::write_all(1, &text);
+    rt.write_all(&text)
 }
 
 // A figure of three digits beside its call's number.
-pub fn figure(letter: u8, label: u8, number: u8, figure: u64) {
+pub fn figure(rt: &impl Print, letter: u8, label: u8, number: u8, figure: u64) -> io::Result<()> {
     let hundreds = (figure / 100 % 10) as u8;
     let rest = (figure % 100) as u8;
     let text = [
@@ -44,5 +54,5 @@ pub fn figure(letter: u8, label: u8, number: u8, figure: u64) {
         digit(rest),
         10,
     ];
-    io::write_all(1, &text);
+    rt.write_all(&text)
 }

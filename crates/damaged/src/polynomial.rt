@@ -5,10 +5,11 @@ use free_list::FreeList;
 use poly::{Mode, Polynome};
 use poly_seg::{Choices, PolySeg};
 use segmentation::{DelaySegment, Rule, VolumeSegment};
+use std::io;
 use units::{Bundle, Date, Delay, Interval, Priority, Strict, TxData, Volume};
 
 // At 3, size 15: the offer is send 3,5, receive 6,8.
-fn report(label: u8, r: PolySeg) {
+fn report(rt: &impl Print, label: u8, r: PolySeg) -> io::Result<()> {
     let at = Date(3);
     let bundle = Bundle {
         size: Volume(15),
@@ -28,7 +29,7 @@ fn report(label: u8, r: PolySeg) {
     let o = r.dry_run(at, bundle);
     let b = r.book(at, bundle, dates);
     let l = r.list();
-    out::line(121, label, good, o.number, b.number, l.number);
+    out::line(rt, 121, label, good, o.number, b.number, l.number)
 }
 
 fn delay(a: u64, b: u64, d: u64) -> DelaySegment {
@@ -137,116 +138,120 @@ fn named(r: PolySeg, mode: u64, rule: u64, strict: u64) -> PolySeg {
     other
 }
 
-fn valid(r: PolySeg) {
+fn valid(rt: &impl Print, r: PolySeg) -> io::Result<()> {
     let zero = segment(0, 0, 0);
     let none = delay(0, 0, 0);
     // as opened; two segments; an empty one; nothing left; an offset past the window; a coefficient at its limit
-    report(97, r);
-    report(98, listing(r, segment(0, 2, 0), segment(3, 10, 0), 2));
-    report(99, listing(r, segment(1, 1, 0), segment(3, 9, 0), 2));
-    report(100, listing(r, segment(10, 10, 0), zero, 1));
-    report(101, polynome(r, 10, Date::MAX));
-    report(102, polynome(r, over::FIRST_WITHIN_TEN, 0));
-    report(103, polynome(r, -10, 0));
+    report(rt, 97, r)?;
+    report(rt, 98, listing(r, segment(0, 2, 0), segment(3, 10, 0), 2))?;
+    report(rt, 99, listing(r, segment(1, 1, 0), segment(3, 9, 0), 2))?;
+    report(rt, 100, listing(r, segment(10, 10, 0), zero, 1))?;
+    report(rt, 101, polynome(r, 10, Date::MAX))?;
+    report(rt, 102, polynome(r, over::FIRST_WITHIN_TEN, 0))?;
+    report(rt, 103, polynome(r, -10, 0))?;
     // no delay, a delay that covers nothing, one backward, dates and delay at their limits
-    report(104, delays(r, none, none, 0));
-    report(105, delays(r, delay(20, 30, 1), none, 1));
-    report(106, delays(r, delay(9, 2, 3), delay(0, 10, 3), 2));
-    report(107, delays(r, delay(0, Date::MAX, Delay::MAX), none, 1));
+    report(rt, 104, delays(r, none, none, 0))?;
+    report(rt, 105, delays(r, delay(20, 30, 1), none, 1))?;
+    report(rt, 106, delays(r, delay(9, 2, 3), delay(0, 10, 3), 2))?;
+    report(rt, 107, delays(r, delay(0, Date::MAX, Delay::MAX), none, 1))
 }
 
-fn broken_rules(r: PolySeg) {
+fn broken_rules(rt: &impl Print, r: PolySeg) -> io::Result<()> {
     let zero = segment(0, 0, 0);
     let none = delay(0, 0, 0);
     // an empty window, a backward one, one date or one length too high
-    report(65, window(r, 10, 10));
-    report(66, window(r, 11, 10));
-    report(67, window(r, over::LATE, over::DATE));
-    report(68, window(r, 0, over::LENGTH));
+    report(rt, 65, window(r, 10, 10))?;
+    report(rt, 66, window(r, 11, 10))?;
+    report(rt, 67, window(r, over::LATE, over::DATE))?;
+    report(rt, 68, window(r, 0, over::LENGTH))?;
     // a capacity, an offset or a coefficient one too high; the last product too high; a number that wraps
-    report(69, polynome(r, over::FIRST_OF_TEN, 0));
-    report(70, polynome(r, 10, over::DATE));
-    report(71, polynome(r, 9_223_372_036_854_775_807, 0));
-    report(72, polynome(r, -9_223_372_036_854_775_807, 0));
-    report(73, cubic(r, over::LAST_OF_TEN));
+    report(rt, 69, polynome(r, over::FIRST_OF_TEN, 0))?;
+    report(rt, 70, polynome(r, 10, over::DATE))?;
+    report(rt, 71, polynome(r, 9_223_372_036_854_775_807, 0))?;
+    report(rt, 72, polynome(r, -9_223_372_036_854_775_807, 0))?;
+    report(rt, 73, cubic(r, over::LAST_OF_TEN))?;
     // delays: one count too high, a count beyond the places, a start, an end or a delay one too high, something unused
-    report(74, delays(r, delay(0, 10, 3), none, over::SEGMENTS));
+    report(rt, 74, delays(r, delay(0, 10, 3), none, over::SEGMENTS))?;
     report(
+        rt,
         75,
         delays(r, delay(0, 10, 3), none, 18_446_744_073_709_551_615),
-    );
-    report(76, delays(r, delay(over::DATE, 10, 3), none, 1));
-    report(77, delays(r, delay(0, over::DATE, 3), none, 1));
-    report(78, delays(r, delay(0, 10, over::DELAY), none, 1));
-    report(79, delays(r, delay(0, 10, 3), delay(0, 0, 1), 1));
+    )?;
+    report(rt, 76, delays(r, delay(over::DATE, 10, 3), none, 1))?;
+    report(rt, 77, delays(r, delay(0, over::DATE, 3), none, 1))?;
+    report(rt, 78, delays(r, delay(0, 10, over::DELAY), none, 1))?;
+    report(rt, 79, delays(r, delay(0, 10, 3), delay(0, 0, 1), 1))?;
     // the list: no segment, too many, a second one that is unused, touching, backward, outside, a volume, something unused
-    report(80, listing(r, segment(0, 10, 0), zero, 0));
-    report(81, listing(r, segment(0, 10, 0), zero, over::LISTED));
-    report(82, listing(r, segment(0, 10, 0), zero, 2));
-    report(83, listing(r, segment(0, 2, 0), segment(2, 10, 0), 2));
-    report(84, listing(r, segment(5, 4, 0), zero, 1));
-    report(85, listing(r, segment(0, 11, 0), zero, 1));
-    report(86, listing(r, segment(0, 10, 1), zero, 1));
-    report(87, listing(r, segment(0, 10, 0), segment(1, 0, 0), 1));
-    report(88, listing(r, segment(0, 10, 0), segment(0, 0, 1), 1));
+    report(rt, 80, listing(r, segment(0, 10, 0), zero, 0))?;
+    report(rt, 81, listing(r, segment(0, 10, 0), zero, over::LISTED))?;
+    report(rt, 82, listing(r, segment(0, 10, 0), zero, 2))?;
+    report(rt, 83, listing(r, segment(0, 2, 0), segment(2, 10, 0), 2))?;
+    report(rt, 84, listing(r, segment(5, 4, 0), zero, 1))?;
+    report(rt, 85, listing(r, segment(0, 11, 0), zero, 1))?;
+    report(rt, 86, listing(r, segment(0, 10, 1), zero, 1))?;
+    report(rt, 87, listing(r, segment(0, 10, 0), segment(1, 0, 0), 1))?;
+    report(rt, 88, listing(r, segment(0, 10, 0), segment(0, 0, 1), 1))
 }
 
-fn modes(r: PolySeg) {
+fn modes(rt: &impl Print, r: PolySeg) -> io::Result<()> {
     let exact = named(r, Mode::EXACT, Rule::FIRST, Strict::OFF);
     // valid: mode 2, which offers the same of this polynomial; the highest first and last coefficient of its range rule
-    report(108, exact);
-    report(109, polynome(exact, over::EXACT_WITHIN_TEN, 0));
-    report(110, cubic(exact, over::EXACT_LAST_WITHIN_TEN));
+    report(rt, 108, exact)?;
+    report(rt, 109, polynome(exact, over::EXACT_WITHIN_TEN, 0))?;
+    report(rt, 110, cubic(exact, over::EXACT_LAST_WITHIN_TEN))?;
     // one too high in mode 2, and what only mode 1 takes
-    report(49, polynome(exact, over::EXACT_OF_TEN, 0));
-    report(50, cubic(exact, over::EXACT_LAST_OF_TEN));
-    report(51, polynome(exact, over::FIRST_WITHIN_TEN, 0));
+    report(rt, 49, polynome(exact, over::EXACT_OF_TEN, 0))?;
+    report(rt, 50, cubic(exact, over::EXACT_LAST_OF_TEN))?;
+    report(rt, 51, polynome(exact, over::FIRST_WITHIN_TEN, 0))?;
     // modes: none, one too many, 255, the largest
-    report(52, named(r, 0, Rule::FIRST, Strict::OFF));
-    report(53, named(r, over::MODE, Rule::FIRST, Strict::OFF));
-    report(54, named(r, 255, Rule::FIRST, Strict::OFF));
+    report(rt, 52, named(r, 0, Rule::FIRST, Strict::OFF))?;
+    report(rt, 53, named(r, over::MODE, Rule::FIRST, Strict::OFF))?;
+    report(rt, 54, named(r, 255, Rule::FIRST, Strict::OFF))?;
     report(
+        rt,
         55,
         named(r, 18_446_744_073_709_551_615, Rule::FIRST, Strict::OFF),
-    );
+    )
 }
 
-fn rules(r: PolySeg) {
+fn rules(rt: &impl Print, r: PolySeg) -> io::Result<()> {
     let second = named(r, Mode::PORTED, Rule::SECOND, Strict::OFF);
     let none = delay(0, 0, 0);
     // valid: rule 2, with one delay segment and with two that cover the window
-    report(111, second);
-    report(112, delays(second, delay(0, 5, 3), delay(5, 10, 3), 2));
+    report(rt, 111, second)?;
+    report(rt, 112, delays(second, delay(0, 5, 3), delay(5, 10, 3), 2))?;
     // what rule 1 takes: no delay, a gap, an overlap, late, early, past the window, an empty one
-    report(40, delays(second, none, none, 0));
-    report(41, delays(second, delay(0, 5, 3), delay(6, 10, 3), 2));
-    report(42, delays(second, delay(0, 5, 3), delay(4, 10, 3), 2));
-    report(43, delays(second, delay(1, 10, 3), none, 1));
-    report(44, delays(second, delay(0, 9, 3), none, 1));
-    report(45, delays(second, delay(0, 11, 3), none, 1));
-    report(46, delays(second, delay(0, 0, 3), delay(0, 10, 3), 2));
+    report(rt, 40, delays(second, none, none, 0))?;
+    report(rt, 41, delays(second, delay(0, 5, 3), delay(6, 10, 3), 2))?;
+    report(rt, 42, delays(second, delay(0, 5, 3), delay(4, 10, 3), 2))?;
+    report(rt, 43, delays(second, delay(1, 10, 3), none, 1))?;
+    report(rt, 44, delays(second, delay(0, 9, 3), none, 1))?;
+    report(rt, 45, delays(second, delay(0, 11, 3), none, 1))?;
+    report(rt, 46, delays(second, delay(0, 0, 3), delay(0, 10, 3), 2))?;
     // rules: none, one too many, 255, the largest
-    report(36, named(r, Mode::PORTED, 0, Strict::OFF));
-    report(37, named(r, Mode::PORTED, over::RULE, Strict::OFF));
-    report(38, named(r, Mode::PORTED, 255, Strict::OFF));
+    report(rt, 36, named(r, Mode::PORTED, 0, Strict::OFF))?;
+    report(rt, 37, named(r, Mode::PORTED, over::RULE, Strict::OFF))?;
+    report(rt, 38, named(r, Mode::PORTED, 255, Strict::OFF))?;
     report(
+        rt,
         39,
         named(r, Mode::PORTED, 18_446_744_073_709_551_615, Strict::OFF),
-    );
+    )?;
     // valid: strict, of which no offer has zero length; flags: one too many, 255, the largest
-    report(113, named(r, Mode::PORTED, Rule::FIRST, Strict::ON));
-    report(60, named(r, Mode::PORTED, Rule::FIRST, over::STRICT));
-    report(61, named(r, Mode::PORTED, Rule::FIRST, 255));
+    report(rt, 113, named(r, Mode::PORTED, Rule::FIRST, Strict::ON))?;
+    report(rt, 60, named(r, Mode::PORTED, Rule::FIRST, over::STRICT))?;
+    report(rt, 61, named(r, Mode::PORTED, Rule::FIRST, 255))?;
     report(
+        rt,
         62,
         named(r, Mode::PORTED, Rule::FIRST, 18_446_744_073_709_551_615),
-    );
+    )
 }
 
-pub fn run() {
+pub fn run(rt: &impl Print) -> io::Result<()> {
     let r = fresh();
-    valid(r);
-    broken_rules(r);
-    modes(r);
-    rules(r);
+    valid(rt, r)?;
+    broken_rules(rt, r)?;
+    modes(rt, r)?;
+    rules(rt, r)
 }

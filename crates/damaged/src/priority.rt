@@ -3,10 +3,11 @@ use crate::{choices, out, over};
 use bookings::{BookingSegment, Bookings, Level};
 use pseg::PrioritySeg;
 use segmentation::{DelaySegment, Edition, RateSegment, Rule};
+use std::io;
 use units::{Bundle, Date, Delay, Interval, Priority, Rate, Strict, TxData, Volume};
 
 // At 3, size 15, priority 5: the offer is send 3,4, receive 6,7.
-fn report(label: u8, r: PrioritySeg) {
+fn report(rt: &impl Print, label: u8, r: PrioritySeg) -> io::Result<()> {
     let at = Date(3);
     let bundle = Bundle {
         size: Volume(15),
@@ -26,11 +27,11 @@ fn report(label: u8, r: PrioritySeg) {
     let o = r.dry_run(at, bundle);
     let b = r.book(at, bundle, dates);
     let l = r.list();
-    out::line(112, label, good, o.number, b.number, l.number);
+    out::line(rt, 112, label, good, o.number, b.number, l.number)
 }
 
 // At 5, size 9: the offer is send 5,5, receive 8,8.
-fn briefly(label: u8, r: PrioritySeg) {
+fn briefly(rt: &impl Print, label: u8, r: PrioritySeg) -> io::Result<()> {
     let at = Date(5);
     let bundle = Bundle {
         size: Volume(9),
@@ -50,7 +51,7 @@ fn briefly(label: u8, r: PrioritySeg) {
     let o = r.dry_run(at, bundle);
     let b = r.book(at, bundle, dates);
     let l = r.list();
-    out::line(116, label, good, o.number, b.number, l.number);
+    out::line(rt, 116, label, good, o.number, b.number, l.number)
 }
 
 fn fresh() -> PrioritySeg {
@@ -118,68 +119,71 @@ fn named(r: PrioritySeg, edition: u64, rule: u64, strict: u64) -> PrioritySeg {
     }
 }
 
-fn lists(r: PrioritySeg) {
+fn lists(rt: &impl Print, r: PrioritySeg) -> io::Result<()> {
     let whole = segment(0, 10, 0);
     let zero = segment(0, 0, 0);
     // valid: as opened; two segments; an empty one; the highest level; booked at the priority itself
-    report(97, r);
-    report(98, listing(r, segment(0, 5, 0), segment(5, 10, 3), 2));
-    report(99, listing(r, segment(0, 0, 6), segment(0, 10, 0), 2));
-    report(100, listing(r, segment(0, 10, Level::MAX), zero, 1));
-    report(101, listing(r, segment(0, 10, 6), zero, 1));
-    report(102, listing(r, segment(0, 10, 5), zero, 1));
+    report(rt, 97, r)?;
+    report(rt, 98, listing(r, segment(0, 5, 0), segment(5, 10, 3), 2))?;
+    report(rt, 99, listing(r, segment(0, 0, 6), segment(0, 10, 0), 2))?;
+    report(rt, 100, listing(r, segment(0, 10, Level::MAX), zero, 1))?;
+    report(rt, 101, listing(r, segment(0, 10, 6), zero, 1))?;
+    report(rt, 102, listing(r, segment(0, 10, 5), zero, 1))?;
     // no segment, too many, a count beyond the places, a second one that is unused
-    report(65, listing(r, whole, zero, 0));
-    report(66, listing(r, whole, zero, over::LISTED));
-    report(67, listing(r, whole, zero, 18_446_744_073_709_551_615));
-    report(68, listing(r, whole, zero, 2));
+    report(rt, 65, listing(r, whole, zero, 0))?;
+    report(rt, 66, listing(r, whole, zero, over::LISTED))?;
+    report(rt, 67, listing(r, whole, zero, 18_446_744_073_709_551_615))?;
+    report(rt, 68, listing(r, whole, zero, 2))?;
     // a gap, an overlap, backward, short of the window, past it, a level above the highest
-    report(69, listing(r, segment(0, 5, 0), segment(6, 10, 0), 2));
-    report(70, listing(r, segment(0, 5, 0), segment(4, 10, 0), 2));
-    report(71, listing(r, segment(0, 12, 0), segment(12, 10, 0), 2));
-    report(72, listing(r, segment(0, 9, 0), zero, 1));
-    report(73, listing(r, segment(0, 11, 0), zero, 1));
-    report(74, listing(r, segment(0, 10, over::LEVEL), zero, 1));
+    report(rt, 69, listing(r, segment(0, 5, 0), segment(6, 10, 0), 2))?;
+    report(rt, 70, listing(r, segment(0, 5, 0), segment(4, 10, 0), 2))?;
+    report(rt, 71, listing(r, segment(0, 12, 0), segment(12, 10, 0), 2))?;
+    report(rt, 72, listing(r, segment(0, 9, 0), zero, 1))?;
+    report(rt, 73, listing(r, segment(0, 11, 0), zero, 1))?;
+    report(rt, 74, listing(r, segment(0, 10, over::LEVEL), zero, 1))?;
     // something in an unused place: a start, an end, a level
-    report(75, listing(r, whole, segment(1, 0, 0), 1));
-    report(76, listing(r, whole, segment(0, 1, 0), 1));
-    report(77, listing(r, whole, segment(0, 0, 1), 1));
+    report(rt, 75, listing(r, whole, segment(1, 0, 0), 1))?;
+    report(rt, 76, listing(r, whole, segment(0, 1, 0), 1))?;
+    report(rt, 77, listing(r, whole, segment(0, 0, 1), 1))
 }
 
-fn choosing(r: PrioritySeg) {
+fn choosing(rt: &impl Print, r: PrioritySeg) -> io::Result<()> {
     // valid: edition 2, in which the send is 3,5, so that the booking stated is not offered; editions: none, one too many, the largest
-    report(103, named(r, Edition::SECOND, Rule::FIRST, Strict::OFF));
-    report(78, named(r, 0, Rule::FIRST, Strict::OFF));
-    report(79, named(r, over::EDITION, Rule::FIRST, Strict::OFF));
+    report(rt, 103, named(r, Edition::SECOND, Rule::FIRST, Strict::OFF))?;
+    report(rt, 78, named(r, 0, Rule::FIRST, Strict::OFF))?;
+    report(rt, 79, named(r, over::EDITION, Rule::FIRST, Strict::OFF))?;
     report(
+        rt,
         80,
         named(r, 18_446_744_073_709_551_615, Rule::FIRST, Strict::OFF),
-    );
+    )?;
     // valid: rule 2, which has the same delay of these dates; rules: none, one too many, 255, the largest
-    report(104, named(r, Edition::FIRST, Rule::SECOND, Strict::OFF));
-    report(81, named(r, Edition::FIRST, 0, Strict::OFF));
-    report(82, named(r, Edition::FIRST, over::RULE, Strict::OFF));
-    report(83, named(r, Edition::FIRST, 255, Strict::OFF));
+    report(rt, 104, named(r, Edition::FIRST, Rule::SECOND, Strict::OFF))?;
+    report(rt, 81, named(r, Edition::FIRST, 0, Strict::OFF))?;
+    report(rt, 82, named(r, Edition::FIRST, over::RULE, Strict::OFF))?;
+    report(rt, 83, named(r, Edition::FIRST, 255, Strict::OFF))?;
     report(
+        rt,
         84,
         named(r, Edition::FIRST, 18_446_744_073_709_551_615, Strict::OFF),
-    );
+    )?;
     // valid: strict, which answers the same of a send that lasts; flags: one too many, 255, the largest
     let strict = named(r, Edition::FIRST, Rule::FIRST, Strict::ON);
-    report(105, strict);
-    report(85, named(r, Edition::FIRST, Rule::FIRST, over::STRICT));
-    report(86, named(r, Edition::FIRST, Rule::FIRST, 255));
+    report(rt, 105, strict)?;
+    report(rt, 85, named(r, Edition::FIRST, Rule::FIRST, over::STRICT))?;
+    report(rt, 86, named(r, Edition::FIRST, Rule::FIRST, 255))?;
     report(
+        rt,
         87,
         named(r, Edition::FIRST, Rule::FIRST, 18_446_744_073_709_551_615),
-    );
+    )?;
     // a send of zero length is booked with the flag off, 17 with it on
-    briefly(97, r);
-    briefly(105, strict);
+    briefly(rt, 97, r)?;
+    briefly(rt, 105, strict)
 }
 
-pub fn run() {
+pub fn run(rt: &impl Print) -> io::Result<()> {
     let r = fresh();
-    lists(r);
-    choosing(r);
+    lists(rt, r)?;
+    choosing(rt, r)
 }

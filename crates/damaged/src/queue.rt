@@ -1,10 +1,11 @@
 // The queue manager: [0,10), rate 10, delay 2, 3 classes, unbudgeted, both flags.
 use crate::{out, over};
 use legacy::{Choices, Flags, Queue};
+use std::io;
 use units::{Bundle, Date, Delay, Interval, Priority, Rate, Strict, TxData, Volume};
 
 // At 0, size 25, priority 1: the offer is send 0,2, receive 2,4.
-fn report(label: u8, r: Queue) {
+fn report(rt: &impl Print, label: u8, r: Queue) -> io::Result<()> {
     let at = Date(0);
     let bundle = Bundle {
         size: Volume(25),
@@ -24,10 +25,10 @@ fn report(label: u8, r: Queue) {
     let o = r.dry_run(at, bundle);
     let b = r.book(at, bundle, dates);
     let l = r.list();
-    out::line(113, label, good, o.number, b.number, l.number);
+    out::line(rt, 113, label, good, o.number, b.number, l.number)?;
     let e = r.enqueue(bundle);
     let d = r.dequeue(bundle);
-    out::line(109, label, good, e.number, d.number, l.number);
+    out::line(rt, 109, label, good, e.number, d.number, l.number)
 }
 
 fn queue(
@@ -72,7 +73,7 @@ fn named(r: Queue, strict: u64) -> Queue {
 }
 
 // At 0, size 9, priority 1: the offer is send 0,0, receive 2,2.
-fn briefly(label: u8, r: Queue) {
+fn briefly(rt: &impl Print, label: u8, r: Queue) -> io::Result<()> {
     let at = Date(0);
     let bundle = Bundle {
         size: Volume(9),
@@ -92,7 +93,7 @@ fn briefly(label: u8, r: Queue) {
     let o = r.dry_run(at, bundle);
     let b = r.book(at, bundle, dates);
     let l = r.list();
-    out::line(117, label, good, o.number, b.number, l.number);
+    out::line(rt, 117, label, good, o.number, b.number, l.number)
 }
 
 fn flags(self_update: bool, budgeted: bool) -> Flags {
@@ -103,39 +104,43 @@ fn flags(self_update: bool, budgeted: bool) -> Flags {
     }
 }
 
-pub fn run() {
+pub fn run(rt: &impl Print) -> io::Result<()> {
     let f = flags(true, false);
     let by_hand = flags(false, false);
     let budgeted = flags(true, true);
     // valid: fresh; queued by hand; a queue, a budget and the classes at their limits
-    report(97, queue(10, 10, 2, 3, f, 0, 0, 0));
-    report(98, queue(10, 10, 2, 3, by_hand, 25, 0, 0));
-    report(99, queue(10, 10, 2, 3, by_hand, Queue::QUEUE_MAX, 0, 0));
-    report(100, queue(10, 10, 2, 3, budgeted, 0, 0, Queue::BUDGET_MAX));
-    report(101, queue(10, 10, 2, Queue::CLASSES_MAX, f, 0, 1, 0));
+    report(rt, 97, queue(10, 10, 2, 3, f, 0, 0, 0))?;
+    report(rt, 98, queue(10, 10, 2, 3, by_hand, 25, 0, 0))?;
+    report(rt, 99, queue(10, 10, 2, 3, by_hand, Queue::QUEUE_MAX, 0, 0))?;
+    report(
+        rt,
+        100,
+        queue(10, 10, 2, 3, budgeted, 0, 0, Queue::BUDGET_MAX),
+    )?;
+    report(rt, 101, queue(10, 10, 2, Queue::CLASSES_MAX, f, 0, 1, 0))?;
     // the window, the rate, the total, the delay
-    report(65, queue(0, 10, 2, 3, f, 0, 0, 0));
-    report(66, queue(over::LENGTH, 10, 2, 3, f, 0, 0, 0));
-    report(67, queue(10, 0, 2, 3, f, 0, 0, 0));
-    report(68, queue(10, over::RATE, 2, 3, f, 0, 0, 0));
-    report(69, queue(10, over::RATE_OF_TEN, 2, 3, f, 0, 0, 0));
-    report(70, queue(10, 10, over::DELAY, 3, f, 0, 0, 0));
+    report(rt, 65, queue(0, 10, 2, 3, f, 0, 0, 0))?;
+    report(rt, 66, queue(over::LENGTH, 10, 2, 3, f, 0, 0, 0))?;
+    report(rt, 67, queue(10, 0, 2, 3, f, 0, 0, 0))?;
+    report(rt, 68, queue(10, over::RATE, 2, 3, f, 0, 0, 0))?;
+    report(rt, 69, queue(10, over::RATE_OF_TEN, 2, 3, f, 0, 0, 0))?;
+    report(rt, 70, queue(10, 10, over::DELAY, 3, f, 0, 0, 0))?;
     // class counts, a queue above its limit, a queue past the classes, budgets
-    report(71, queue(10, 10, 2, 0, f, 0, 0, 0));
-    report(72, queue(10, 10, 2, over::CLASSES, f, 0, 0, 0));
-    report(73, queue(10, 10, 2, 3, f, over::QUEUE, 0, 0));
-    report(74, queue(10, 10, 2, 3, f, 0, 1, 0));
-    report(75, queue(10, 10, 2, 3, f, 0, 0, 1));
-    report(76, queue(10, 10, 2, 3, budgeted, 0, 0, over::BUDGET));
+    report(rt, 71, queue(10, 10, 2, 0, f, 0, 0, 0))?;
+    report(rt, 72, queue(10, 10, 2, over::CLASSES, f, 0, 0, 0))?;
+    report(rt, 73, queue(10, 10, 2, 3, f, over::QUEUE, 0, 0))?;
+    report(rt, 74, queue(10, 10, 2, 3, f, 0, 1, 0))?;
+    report(rt, 75, queue(10, 10, 2, 3, f, 0, 0, 1))?;
+    report(rt, 76, queue(10, 10, 2, 3, budgeted, 0, 0, over::BUDGET))?;
     // valid: strict, which answers the same of a send that lasts; flags: one too many, 255, the largest
     let fresh = queue(10, 10, 2, 3, f, 0, 0, 0);
     let manual = queue(10, 10, 2, 3, by_hand, 0, 0, 0);
-    report(102, named(fresh, Strict::ON));
-    report(77, named(fresh, over::STRICT));
-    report(78, named(fresh, 255));
-    report(79, named(fresh, 18_446_744_073_709_551_615));
+    report(rt, 102, named(fresh, Strict::ON))?;
+    report(rt, 77, named(fresh, over::STRICT))?;
+    report(rt, 78, named(fresh, 255))?;
+    report(rt, 79, named(fresh, 18_446_744_073_709_551_615))?;
     // a send of zero length is booked with the flag off, 17 with it on, under self-update or not
-    briefly(97, fresh);
-    briefly(102, named(fresh, Strict::ON));
-    briefly(103, named(manual, Strict::ON));
+    briefly(rt, 97, fresh)?;
+    briefly(rt, 102, named(fresh, Strict::ON))?;
+    briefly(rt, 103, named(manual, Strict::ON))
 }
