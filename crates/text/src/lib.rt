@@ -1,4 +1,6 @@
 // Answers as text: each writer stores its text at a place of the lent line and leaves every other byte as it was.
+#![tactic(auto)]
+
 ghost use Rattle.std.specs.Prelude.{◌≡◌, [], ◌∷◌, ◌+◌, ◌<◌, ◌≤◌};
 ghost use Rattle.text.specs.Text.{digit_of, byte_text, word_text, number_text, bits_of, signed_text, interval_text, dates_text};
 ghost use Rattle.text.specs.Line.{room, written};
