@@ -4,8 +4,8 @@ use Rattle.units.specs.declared.Date.{Date}
 use Rattle.units.specs.declared.Interval.{Interval}
 use Rattle.units.specs.declared.TxData.{TxData}
 use Rattle.units.specs.declared.Bundle.{Bundle}
-use Rattle.hex.specs.Digits.{byte_at}
-use Rattle.hex.specs.Numbers.{number_at}
+use Rattle.hexadecimal.specs.Digits.{byte_at}
+use Rattle.hexadecimal.specs.Numbers.{number_at}
 
 -- the line has n bytes: two digits each
 unfoldable pub has_bytes : List ℕ → ℕ → Bool

@@ -1,6 +1,6 @@
 -- 01, "The trace program", 01/02: start, end, rate count, delay count, (start, end, rate)s, (start, end, delay)s; and 02's 21/22.
 use Rattle.std.specs.Prelude.{ℕ, ◌+◌, ◌*◌, List}
-use Rattle.hex.specs.Digits.{byte_at}
+use Rattle.hexadecimal.specs.Digits.{byte_at}
 use Rattle.layout.specs.declared.opening.Opening.{Opening}
 use Rattle.layout.specs.Fields.{interval_at}
 use Rattle.layout.specs.Segments.{rates_at, delays_at}

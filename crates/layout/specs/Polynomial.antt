@@ -1,8 +1,8 @@
 -- 01, "The trace program", 03: start, end, offset, 4 coefficients, delay count, delays; and 02's 23.
 use Rattle.std.specs.Prelude.{ℕ, ◌+◌, ◌*◌, List, [], ◌∷◌}
 use Rattle.poly.specs.declared.Polynome.{Polynome}
-use Rattle.hex.specs.Digits.{byte_at}
-use Rattle.hex.specs.Numbers.{number_at, signed_of}
+use Rattle.hexadecimal.specs.Digits.{byte_at}
+use Rattle.hexadecimal.specs.Numbers.{number_at, signed_of}
 use Rattle.layout.specs.declared.polynomial.PolynomialOpening.{PolynomialOpening}
 use Rattle.layout.specs.Fields.{date_at, interval_at}
 use Rattle.layout.specs.Segments.{delays_at}

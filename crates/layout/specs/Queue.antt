@@ -1,11 +1,11 @@
 -- 01, "The trace program", 04: flags, class count, start, end, rate, delay, 8 budgets; flags above 7 are no frame.
-use Rattle.std.specs.Prelude.{ℕ, ◌+◌, ◌/◌, ◌%◌, Bool, List, leb, eqb}
+use Rattle.std.specs.Prelude.{ℕ, ◌/◌, ◌%◌, Bool, List, leb, eqb}
 use Rattle.units.specs.declared.Volume.{Volume}
 use Rattle.units.specs.Logic.{both}
 use Rattle.legacy.specs.declared.Flags.{Flags}
 use Rattle.legacy.specs.Open.{classes_max}
-use Rattle.hex.specs.Digits.{byte_at}
-use Rattle.hex.specs.Numbers.{number_at}
+use Rattle.hexadecimal.specs.Digits.{byte_at}
+use Rattle.hexadecimal.specs.Numbers.{number_at}
 use Rattle.layout.specs.declared.queue.QueueOpening.{QueueOpening}
 use Rattle.layout.specs.Fields.{interval_at, has_bytes}
 use Rattle.layout.specs.Segments.{rows}

@@ -2,7 +2,7 @@
 use Rattle.std.specs.Prelude.{ℕ, ◌+◌, Bool, List, leb}
 use Rattle.units.specs.Logic.{pick}
 use Rattle.segmentation.specs.declared.Rule.{Rule}
-use Rattle.hex.specs.Digits.{byte_at}
+use Rattle.hexadecimal.specs.Digits.{byte_at}
 
 -- the kinds that state a rule; 02 writes them in hexadecimal: 21 is 33
 unfoldable pub ruled : List ℕ → Bool

@@ -4,7 +4,7 @@ use Rattle.units.specs.Limits.{segments_max}
 use Rattle.units.specs.Arrays.{padded}
 use Rattle.segmentation.specs.declared.RateSegment.{RateSegment}
 use Rattle.segmentation.specs.declared.DelaySegment.{DelaySegment}
-use Rattle.hex.specs.Numbers.{number_at}
+use Rattle.hexadecimal.specs.Numbers.{number_at}
 use Rattle.layout.specs.Fields.{date_at}
 
 -- what f reads at a place and at each place a step further, n in all

@@ -1,11 +1,13 @@
 // Where a frame's fields stand. A place is counted in bytes; the kind stands at 0. Every line is read: a place past its end counts 0, and `has` tells its length.
+#![tactic(auto)]
+
 pub mod opening;
 pub mod polynomial;
 pub mod queue;
 pub mod rule;
 
 ghost use Rattle.std.specs.Prelude.{◌≡◌, ◌<◌, ◌^◌};
-ghost use Rattle.hex.specs.Digits.{byte_at};
+ghost use Rattle.hexadecimal.specs.Digits.{byte_at};
 ghost use Rattle.layout.specs.Fields.{date_at, interval_at, dates_at, bundle_at, has_bytes};
 
 use units::{Bundle, Date, Interval, Priority, TxData, Volume};
@@ -22,13 +24,13 @@ pub fn has(line: &[u8], bytes: usize) -> bool
 pub fn count_at(line: &[u8], at: usize) -> usize
     ensures { (result ≡ byte_at line.now at) × (result < 256) }
 {
-    hex::byte_at(line, at) as usize
+    hexadecimal::byte_at(line, at) as usize
 }
 
 pub fn date_at(line: &[u8], at: usize) -> Date
     ensures { result ≡ date_at line.now at }
 {
-    Date(hex::number_at(line, at))
+    Date(hexadecimal::number_at(line, at))
 }
 
 pub fn interval_at(line: &[u8], at: usize) -> Interval
@@ -61,8 +63,8 @@ pub fn bundle_at(line: &[u8], at: usize) -> Bundle
     requires { at < 2 ^ 62 }
     ensures { result ≡ bundle_at line.now at }
 {
-    let size = hex::number_at(line, at);
-    let priority = hex::byte_at(line, at + 8);
+    let size = hexadecimal::number_at(line, at);
+    let priority = hexadecimal::byte_at(line, at + 8);
     Bundle {
         size: Volume(size),
         priority: Priority(priority),

@@ -11,7 +11,7 @@ use units::{Date, Delay, Interval, Rate};
 
 // What an opening with segments is given.
 #[repr(C)]
-#[derive(Drop)]
+#[derive(Clone, Copy)]
 pub struct Opening {
     pub rule: Rule,
     pub window: Interval,
@@ -27,7 +27,7 @@ fn rate_at(line: &[u8], at: usize) -> RateSegment
 {
     let start = date_at(line, at);
     let end = date_at(line, at + 8);
-    let rate = hex::number_at(line, at + 16);
+    let rate = hexadecimal::number_at(line, at + 16);
     RateSegment {
         start: start,
         end: end,
@@ -41,7 +41,7 @@ fn delay_at(line: &[u8], at: usize) -> DelaySegment
 {
     let start = date_at(line, at);
     let end = date_at(line, at + 8);
-    let delay = hex::number_at(line, at + 16);
+    let delay = hexadecimal::number_at(line, at + 16);
     DelaySegment {
         start: start,
         end: end,

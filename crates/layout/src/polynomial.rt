@@ -11,7 +11,7 @@ use units::Interval;
 
 // What the polynomial manager's opening is given.
 #[repr(C)]
-#[derive(Drop)]
+#[derive(Clone, Copy)]
 pub struct PolynomialOpening {
     pub rule: Rule,
     pub window: Interval,
@@ -38,10 +38,10 @@ fn polynome(line: &[u8]) -> Polynome
     ensures { result ≡ polynome_of line.now }
 {
     let offset = date_at(line, 17);
-    let c0 = hex::signed_at(line, 25);
-    let c1 = hex::signed_at(line, 33);
-    let c2 = hex::signed_at(line, 41);
-    let c3 = hex::signed_at(line, 49);
+    let c0 = hexadecimal::signed_at(line, 25);
+    let c1 = hexadecimal::signed_at(line, 33);
+    let c2 = hexadecimal::signed_at(line, 41);
+    let c3 = hexadecimal::signed_at(line, 49);
     let coefficients = [c0, c1, c2, c3];
     Polynome {
         coefficients: coefficients,

@@ -8,7 +8,7 @@ use units::{Delay, Interval, Rate, Volume};
 
 // What the queue manager's opening is given.
 #[repr(C)]
-#[derive(Drop)]
+#[derive(Clone, Copy)]
 pub struct QueueOpening {
     pub window: Interval,
     pub rate: Rate,
@@ -35,7 +35,7 @@ fn budgets_at(line: &[u8]) -> [Volume; Queue::CLASSES_MAX]
     let mut budgets = [Volume(0); Queue::CLASSES_MAX];
     let mut i = 0;
     while i < Queue::CLASSES_MAX {
-        let size = hex::number_at(line, 35 + 8 * i);
+        let size = hexadecimal::number_at(line, 35 + 8 * i);
         budgets[i] = Volume(size);
         i += 1;
     }
@@ -59,8 +59,8 @@ pub fn read(line: &[u8]) -> QueueOpening
     let f = flags(n);
     let classes = count_at(line, 2);
     let window = interval_at(line, 3);
-    let rate = hex::number_at(line, 19);
-    let delay = hex::number_at(line, 27);
+    let rate = hexadecimal::number_at(line, 19);
+    let delay = hexadecimal::number_at(line, 27);
     let budgets = budgets_at(line);
     QueueOpening {
         window: window,

@@ -11,7 +11,7 @@ const RULED: u8 = 33;
 fn stated(line: &[u8]) -> bool
     ensures { result ≡ ruled line.now }
 {
-    RULED <= hex::byte_at(line, 0)
+    RULED <= hexadecimal::byte_at(line, 0)
 }
 
 // The length of an opening whose segments end here.
@@ -31,7 +31,7 @@ pub fn at(line: &[u8], end: usize) -> Rule
     ensures { result ≡ rule_at line.now end }
 {
     if stated(line) {
-        return Rule(hex::byte_at(line, end) as u64);
+        return Rule(hexadecimal::byte_at(line, end) as u64);
     }
     Rule(Rule::FIRST)
 }
