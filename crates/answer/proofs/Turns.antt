@@ -51,9 +51,10 @@ module _ {A : Type 0} (text : A → List ℕ) (width : ℕ) (l : List A) (n : �
           })
 
       -- no place is left: where the rows end, and the line
-      pub turn_end : n ≤ i → (at ≡ from.at + length (list_text text (take n l))) × (line ≡ list_from text from (take n l))
+      pub turn_end : n ≤ i → record { value : at ≡ from.at + length (list_text text (take n l)); out_after : line ≡ list_from text from (take n l) }
       turn_end h =
-          let here : i ≡ n = omega (arith, w.left.low) in (
-            w.place ∙ ap (λ (k : ℕ). from.at + k) (ap (λ (k : ℕ). width * k) here ∙ sym (rows-length size)),
-            sym (place_end _ l n from i _ w.left h ∙ list-end text width each line at),
-          )
+          let here : i ≡ n = omega (arith, w.left.low) in
+          record {
+            value = w.place ∙ ap (λ (k : ℕ). from.at + k) (ap (λ (k : ℕ). width * k) here ∙ sym (rows-length size));
+            out_after = sym (place_end _ l n from i _ w.left h ∙ list-end text width each line at);
+          }

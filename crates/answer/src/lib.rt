@@ -1,4 +1,6 @@
 // An answer's line: the number in one byte, what stands after it, and the line end. Each writer stores its line at the front of the lent one and gives its length.
+#![tactic(auto)]
+
 pub mod rows;
 
 ghost use Rattle.std.specs.Prelude.{◌≡◌, ◌≤◌, length};
