@@ -9,7 +9,6 @@ use Rattle.poly_seg.specs.declared.PolySeg.{PolySeg}
 use Rattle.poly_seg.specs.Open.{refused_opening as refused_polynomial}
 use Rattle.legacy.specs.declared.Queue.{Queue as QueueRecord}
 use Rattle.legacy.specs.Open.{refused_opening as refused_queue}
-use Rattle.held.specs.declared.Kind.{Kind}
 use Rattle.held.specs.declared.Kind.TheVariants.{Nothing, Free, Priority, Polynomial, Queue}
 use Rattle.held.specs.declared.Held.{Held}
 use Rattle.held.specs.declared.Done.{Done}

@@ -1,4 +1,6 @@
 // The record that the trace program holds: one of any manager, or none. Its kind decides whose call is made.
+#![tactic(auto)]
+
 pub mod free;
 pub mod polynomial;
 pub mod priority;
@@ -15,7 +17,7 @@ use seg::FreeVolume;
 use units::{Bundle, Date, Offer, TxData};
 
 // Whose record is held.
-#[derive(Drop)]
+#[derive(Clone, Copy)]
 pub enum Kind {
     Nothing,
     Free,
@@ -25,7 +27,7 @@ pub enum Kind {
 }
 
 // The record of the kind is the one held; the others are left from before, and nothing reads them.
-#[derive(Drop)]
+#[derive(Clone, Copy)]
 pub struct Held {
     pub kind: Kind,
     pub free: FreeVolume,
@@ -35,7 +37,7 @@ pub struct Held {
 }
 
 // A call's answer: 01's number, and what is held after it.
-#[derive(Drop)]
+#[derive(Clone, Copy)]
 pub struct Done {
     pub number: u8,
     pub held: Held,

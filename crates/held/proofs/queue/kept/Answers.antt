@@ -1,0 +1,13 @@
+-- `held::queue::kept` meets its contract: by whether the number is 0.
+use borrow.Author.Tests.{eq-eqb, ne_eqb}
+use mathlib.Core.Path.{refl}
+use Rattle.held.specs.State.{kept_queue}
+use Rattle.held.proofs.queue.kept.Goals as goal
+
+pub returns-then-number-ne0 : goal.returns-then-number-ne0
+unfolding kept_queue
+returns-then-number-ne0 c = rw (ne_eqb _ 0 c.if-number-ne0.true) c.refused.ensures
+
+pub returns : goal.returns
+unfolding kept_queue
+returns c = rw (eq-eqb _ 0 c.if-number-ne0.false) refl
