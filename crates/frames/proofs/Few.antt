@@ -1,6 +1,5 @@
 -- A list's answer has at most 64 segments, or at most 8 classes: a record's own list has, and a refusal's has none.
-use Prim.Native.Nat.{ℕ, ◌≤◌}
-use mathlib.Core.Path.{◌≡◌}
+use Prim.Native.Nat.{◌≤◌}
 use native.Mathlib.Omega.{arith}
 use Rattle.units.specs.Limits.{listed_max}
 use Rattle.units.proofs.Logic.{unless-keeps}

@@ -15,7 +15,7 @@ use Rattle.pseg.specs.declared.Opened.{Opened as PriorityOpened}
 use Rattle.poly_seg.specs.declared.Opened.{Opened as PolynomialOpened}
 use Rattle.legacy.specs.declared.Opened.{Opened as QueueOpened}
 use Rattle.legacy.specs.declared.Booked.{Booked}
-use Rattle.hex.specs.Digits.{byte_at}
+use Rattle.hexadecimal.specs.Digits.{byte_at}
 use Rattle.layout.specs.Fields.{date_at, dates_at, bundle_at, has_bytes}
 use Rattle.layout.specs.Opening.{opening_length, opening_of}
 use Rattle.layout.specs.Polynomial.{polynomial_length, polynomial_of}

@@ -8,7 +8,7 @@ use native.Mathlib.Omega.{arith}
 use lib.Dec.{eqb}
 use borrow.Author.Tests.{ne_eqb}
 use Rattle.units.proofs.Numbers.{eq-or-ne}
-use Rattle.hex.specs.Digits.{byte_at}
+use Rattle.hexadecimal.specs.Digits.{byte_at}
 use Rattle.answer.specs.Lines.{number_line}
 use Rattle.held.specs.declared.Held.{Held}
 use Rattle.held.specs.declared.Done.{Done}

@@ -1,7 +1,7 @@
 -- What is told: an answer's line at the front of the lent one, with its length; the list of each kind's record; the cases of a step.
 use Prim.Native.Nat.{ℕ}
 use mathlib.Core.Path.{◌≡◌, refl, ap, sym, ◌∙◌}
-use mathlib.Core.Bool.{Bool, true, false}
+use mathlib.Core.Bool.{true, false}
 use mathlib.Core.List.{List}
 use lib.ListN.{length}
 use Rattle.units.proofs.Logic.{unless-go, unless-stop}
@@ -16,29 +16,28 @@ use Rattle.poly_seg.specs.declared.Listing.{Listing as PolynomialListing}
 use Rattle.poly_seg.specs.List.{list_of as list_polynomial}
 use Rattle.legacy.specs.declared.Listing.{Listing as QueueListing}
 use Rattle.legacy.specs.List.{list_of as list_queue}
-use Rattle.hex.specs.Digits.{byte_at}
+use Rattle.hexadecimal.specs.Digits.{byte_at}
 use Rattle.text.specs.Line.{written}
 use Rattle.answer.proofs.Stored.{Stored}
 use Rattle.answer.specs.Lines.{number_line, volumes_line, bookings_line, queues_line, room_line}
 use Rattle.held.specs.declared.Kind.{Kind}
 use Rattle.held.specs.declared.Kind.TheVariants.{Nothing, Free, Priority, Polynomial, Queue}
 use Rattle.held.specs.declared.Held.{Held}
-use Rattle.frames.specs.declared.Stepped.{Stepped}
 use Rattle.frames.specs.Opening.{no_frame}
 use Rattle.frames.specs.Calls.{list_as, list_held, room_line_as, room_held}
 use Rattle.frames.specs.Step.{is_line, changes, change_of, show_of, told, step_of, stepped_of}
 
 -- a text that stands at the front of the line does so under an equal one too
 pub stored-as : (line : List ℕ) {text same : List ℕ} {r : ℕ} {end : List ℕ} → text ≡ same → Stored line text r end → Stored line same r end
-stored-as line e s = (s.0 ∙ ap length e, s.1 ∙ ap (written line 0) e)
+stored-as line e s = record { value = s.value ∙ ap length e; out_after = s.out_after ∙ ap (written line 0) e }
 
 -- and it is the answer of a step
 pub stepped-as : (line : List ℕ) {text : List ℕ} {next : Held} {s : List ℕ × Held} {r : ℕ} {end : List ℕ} → (text, next) ≡ s → Stored line text r end
-    → (record { length = r; held = next } ≡ stepped_of s) × (end ≡ written line 0 s.0)
-stepped-as line {next = next} e p = (
-  ap (λ (n : ℕ). record { length = n; held = next }) p.0 ∙ ap stepped_of e,
-  p.1 ∙ ap (λ (s : List ℕ × Held). written line 0 s.0) e,
-)
+    → record { value : record { length = r; held = next } ≡ stepped_of s; out_after : end ≡ written line 0 s.0 }
+stepped-as line {next = next} e p = record {
+  value = ap (λ (n : ℕ). record { length = n; held = next }) p.value ∙ ap stepped_of e;
+  out_after = p.out_after ∙ ap (λ (s : List ℕ × Held). written line 0 s.0) e;
+}
 
 -- the list of the record that is held, by its kind
 module _ (h : Held) where

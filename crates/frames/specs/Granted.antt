@@ -4,7 +4,7 @@ use Rattle.units.specs.Logic.{pick, unless}
 use Rattle.legacy.specs.declared.Queue.{Queue as QueueRecord}
 use Rattle.legacy.specs.declared.Booked.{Booked}
 use Rattle.legacy.specs.Queueing.{enqueue_of, dequeue_of}
-use Rattle.hex.specs.Digits.{byte_at}
+use Rattle.hexadecimal.specs.Digits.{byte_at}
 use Rattle.layout.specs.Fields.{bundle_at, has_bytes}
 use Rattle.layout.specs.Opening.{opening_length}
 use Rattle.layout.specs.Polynomial.{polynomial_length}

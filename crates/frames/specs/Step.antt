@@ -1,7 +1,7 @@
 -- 01, "The trace program": the frame kind decides the layout; a line of more than 2,048 digits, with another digit or kind, ff.
 use Rattle.std.specs.Prelude.{ℕ, Bool, ◌||◌, List, leb, eqb, length}
 use Rattle.units.specs.Logic.{both, pick, unless}
-use Rattle.hex.specs.Digits.{clean_of, byte_at}
+use Rattle.hexadecimal.specs.Digits.{clean_of, byte_at}
 use Rattle.answer.specs.Lines.{number_line, offer_line}
 use Rattle.held.specs.declared.Held.{Held}
 use Rattle.held.specs.declared.Done.{Done}

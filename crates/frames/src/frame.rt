@@ -3,7 +3,7 @@ ghost use Rattle.std.specs.Prelude.{◌≡◌, Bool};
 ghost use Rattle.frames.specs.Granted.{frame_of, when_of};
 
 // The four openings, with a stated rule or without, the calls, and 13 and 14 together; every other line is none.
-#[derive(Drop)]
+#[derive(Clone, Copy)]
 pub enum Frame {
     Wrong,
     Free,
@@ -30,7 +30,7 @@ pub fn of(line: &[u8]) -> Frame
     if !crate::is_line(line) {
         return Frame::Wrong;
     }
-    let kind = hex::byte_at(line, 0);
+    let kind = hexadecimal::byte_at(line, 0);
     match kind {
         1 => when(layout::opening::fits(line), Frame::Free),
         2 => when(layout::opening::fits(line), Frame::Priority),

@@ -1,4 +1,6 @@
 // One line of the trace program: the frame kind decides the layout and the call; the answer's line is written, and what is held next is returned.
+#![tactic(auto)]
+
 pub mod anew;
 pub mod calls;
 pub mod frame;
@@ -6,7 +8,7 @@ pub mod opening;
 pub mod queueing;
 
 ghost use Rattle.std.specs.Prelude.{◌≡◌, length};
-ghost use Rattle.hex.specs.Digits.{byte_at};
+ghost use Rattle.hexadecimal.specs.Digits.{byte_at};
 ghost use Rattle.text.specs.Line.{written};
 ghost use Rattle.frames.specs.Step.{is_line, changes, change_of, show_of, step_of, stepped_of};
 
@@ -14,7 +16,7 @@ use held::{Done, Held};
 use text::LINE;
 
 // How long the answer's line is, and what is held after it.
-#[derive(Drop)]
+#[derive(Clone, Copy)]
 pub struct Stepped {
     pub length: usize,
     pub held: Held,
@@ -33,14 +35,14 @@ pub fn is_line(line: &[u8]) -> bool
     if DIGITS_MAX < line.len() {
         return false;
     }
-    hex::clean(line)
+    hexadecimal::clean(line)
 }
 
 // Can the line's kind change what is held? The others only show it.
 pub fn can_change(line: &[u8]) -> bool
     ensures { result ≡ changes (byte_at line.now 0) }
 {
-    let kind = hex::byte_at(line, 0);
+    let kind = hexadecimal::byte_at(line, 0);
     match kind {
         1 | 2 | 3 | 4 | 17 | 19 | 20 | 33 | 34 | 35 => true,
         _ => false,
@@ -51,7 +53,7 @@ pub fn can_change(line: &[u8]) -> bool
 pub fn change(line: &[u8], held: Held) -> Done
     ensures { result ≡ change_of (byte_at line.now 0) line.now held }
 {
-    let kind = hex::byte_at(line, 0);
+    let kind = hexadecimal::byte_at(line, 0);
     match kind {
         1 => opening::free(line, held),
         2 => opening::priority(line, held),
@@ -72,7 +74,7 @@ pub fn show(out: &mut [u8; LINE], line: &[u8], held: Held) -> usize
     ensures value { result ≡ length (show_of (byte_at line.now 0) line.now held) }
     ensures out_after { out.new ≡ written out.old 0 (show_of (byte_at line.now 0) line.now held) }
 {
-    let kind = hex::byte_at(line, 0);
+    let kind = hexadecimal::byte_at(line, 0);
     match kind {
         16 => {
             let offer = calls::offer(line, held);

@@ -10,7 +10,7 @@ pub fn call(line: &[u8], r: Queue) -> Booked
     ensures { result ≡ queueing_of line.now r }
 {
     let bundle = layout::bundle_at(line, 1);
-    if hex::byte_at(line, 0) == 19 {
+    if hexadecimal::byte_at(line, 0) == 19 {
         return r.enqueue_kept(bundle);
     }
     r.dequeue_kept(bundle)
