@@ -41,7 +41,7 @@ use Rattle.legacy.specs.Record.{record_ok as queue_ok}
 use Rattle.legacy.specs.Book.{book_of as book_queue}
 use Rattle.legacy.specs.Queueing.{enqueue_of, dequeue_of}
 use Rattle.legacy.proofs.Kept.{book-ok, enqueue-ok, dequeue-ok}
-use Rattle.hex.specs.Digits.{byte_at}
+use Rattle.hexadecimal.specs.Digits.{byte_at}
 use Rattle.layout.specs.Fields.{bundle_at}
 use Rattle.held.specs.declared.Held.{Held}
 use Rattle.held.specs.declared.Kind.{Kind}

@@ -1,19 +1,32 @@
 // The trace program: reads frames from standard input, one a line, and writes an answer line for each. Bounded memory: of a line that is too long, only as much is kept as tells so.
+#![tactic(auto)]
+
 ghost use Rattle.std.specs.Prelude.{◌≡◌, true, ◌+◌, ◌<◌, ◌≤◌, length};
-ghost use Rattle.io.specs.Counts.{IsPrefixLen};
 ghost use Rattle.held.specs.Rules.{held_ok};
+ghost use Rattle.trace.specs.Counts.{IsPrefixLen};
 
 use frames::NO_FRAME;
 use frames::frame::Frame;
 use held::{Held, Kind};
+use std::io;
+use std::io::{Read, Stdin, Stdout};
 use text::LINE;
 
 // What goes from one read to the next: how much of an unfinished line is kept, how much of the reply waits, and what is held.
-#[derive(Drop)]
+#[derive(Clone, Copy)]
 struct Carry {
     kept: usize,
     waiting: usize,
     held: Held,
+}
+
+// Standard input and output, and how reading and writing have gone so far.
+#[derive(Drop)]
+struct Streams {
+    input: Stdin,
+    output: Stdout,
+    read: io::Result<()>,
+    written: io::Result<()>,
 }
 
 // n, or the buffer's length where that is less. With its contract `&buf[..n]` needs no proof.
@@ -102,32 +115,42 @@ fn keep(line: &mut [u8], kept: usize, piece: &[u8]) -> usize {
     copy(line, kept, piece, piece.len())
 }
 
-// Writes what waits.
-fn flush(reply: &[u8], waiting: usize) {
+// Writes what waits, unless a write has failed.
+fn flush(streams: &mut Streams, reply: &[u8], waiting: usize) {
+    if streams.written.is_err() {
+        return;
+    }
     let n = fit(waiting, reply);
-    io::write_all(1, &reply[..n]);
+    streams.written = streams.output.write_all(&reply[..n]);
 }
 
 // Room for the longest answer: what waits is written first where it is short.
-fn room(reply: &[u8], waiting: usize) -> usize {
+fn room(streams: &mut Streams, reply: &[u8], waiting: usize) -> usize {
     if reply.len() < LINE {
         return waiting;
     }
     if waiting <= reply.len() - LINE {
         return waiting;
     }
-    flush(reply, waiting);
+    flush(streams, reply, waiting);
     0
 }
 
 // The answer waits, and there is room for the next.
-fn say(reply: &mut [u8], waiting: usize, out: &[u8], n: usize) -> usize {
+fn say(streams: &mut Streams, reply: &mut [u8], waiting: usize, out: &[u8], n: usize) -> usize {
     let more = copy(reply, waiting, out, n);
-    room(reply, more)
+    room(streams, reply, more)
 }
 
 // All whole lines of a chunk from a place on. Each record is a local of its own and is changed where it stands: by value it would be copied at every line.
-fn feed(reply: &mut [u8], out: &mut [u8; LINE], chunk: &[u8], start: usize, first: Carry) -> Carry
+fn feed(
+    streams: &mut Streams,
+    reply: &mut [u8],
+    out: &mut [u8; LINE],
+    chunk: &[u8],
+    start: usize,
+    first: Carry,
+) -> Carry
     requires fact_1 { start ≤ length chunk.now }
     requires fact_2 { held_ok first.held ≡ true }
     ensures { held_ok result.held ≡ true }
@@ -146,7 +169,7 @@ fn feed(reply: &mut [u8], out: &mut [u8; LINE], chunk: &[u8], start: usize, firs
         let line = &chunk[from..end];
         from = end + 1;
         end = line_end(chunk, from);
-        waiting = say(reply, waiting, out, n);
+        waiting = say(streams, reply, waiting, out, n);
         n = 0;
         match frames::frame::of(line) {
             Frame::Wrong => {
@@ -368,6 +391,7 @@ fn keep_rest(line: &mut [u8], chunk: &[u8], from: usize) -> usize {
 
 // The whole lines of a chunk from a place on are answered, and what is left is kept.
 fn lines(
+    streams: &mut Streams,
     reply: &mut [u8],
     out: &mut [u8; LINE],
     line: &mut [u8],
@@ -378,7 +402,7 @@ fn lines(
     requires { (start ≤ length chunk.now) × (held_ok carry.held ≡ true) }
     ensures { held_ok result.held ≡ true }
 {
-    let mut next = feed(reply, out, chunk, start, carry);
+    let mut next = feed(streams, reply, out, chunk, start, carry);
     let from = next.kept;
     let n = keep_rest(line, chunk, from);
     next.kept = n;
@@ -395,17 +419,24 @@ fn closed(line: &mut [u8], kept: usize) -> usize {
 }
 
 // What is kept is a whole line.
-fn finish(reply: &mut [u8], out: &mut [u8; LINE], line: &mut [u8], carry: Carry) -> Carry
+fn finish(
+    streams: &mut Streams,
+    reply: &mut [u8],
+    out: &mut [u8; LINE],
+    line: &mut [u8],
+    carry: Carry,
+) -> Carry
     requires { held_ok carry.held ≡ true }
     ensures { held_ok result.held ≡ true }
 {
     let whole = closed(line, carry.kept);
     let n = fit(whole, line);
-    feed(reply, out, &line[..n], 0, carry)
+    feed(streams, reply, out, &line[..n], 0, carry)
 }
 
 // The line that was kept is whole now: it is answered, and then the lines after it.
 fn join(
+    streams: &mut Streams,
     reply: &mut [u8],
     out: &mut [u8; LINE],
     line: &mut [u8],
@@ -417,12 +448,13 @@ fn join(
     ensures { held_ok result.held ≡ true }
 {
     let after = end + 1;
-    let next = finish(reply, out, line, carry);
-    lines(reply, out, line, chunk, after, next)
+    let next = finish(streams, reply, out, line, carry);
+    lines(streams, reply, out, line, chunk, after, next)
 }
 
 // A chunk: the rest of a line that was kept belongs to it.
 fn take(
+    streams: &mut Streams,
     reply: &mut [u8],
     out: &mut [u8; LINE],
     line: &mut [u8],
@@ -434,7 +466,7 @@ fn take(
 {
     let kept = first.kept;
     if kept == 0 {
-        return lines(reply, out, line, chunk, 0, first);
+        return lines(streams, reply, out, line, chunk, 0, first);
     }
     let end = line_end(chunk, 0);
     let e = fit(end, chunk);
@@ -442,19 +474,20 @@ fn take(
     let mut carry = first;
     carry.kept = n;
     if end < chunk.len() {
-        return join(reply, out, line, chunk, end, carry);
+        return join(streams, reply, out, line, chunk, end, carry);
     }
     carry
 }
 
-#[derive(Drop)]
+#[derive(Clone, Copy)]
 struct Outcome {
     more: bool,
     carry: Carry,
 }
 
-// One read; its answers are written before the next, so that a partner who waits for them gets them.
+// One read; its answers are written before the next, so that a partner who waits for them gets them. A read that fails is the input's end.
 fn turn(
+    streams: &mut Streams,
     chunk: &mut [u8],
     reply: &mut [u8],
     out: &mut [u8; LINE],
@@ -464,23 +497,29 @@ fn turn(
     requires { held_ok carry.held ≡ true }
     ensures { held_ok result.carry.held ≡ true }
 {
-    let got = libc::read(0, chunk);
-    if got <= 0 {
+    let n = match streams.input.read(chunk) {
+        Ok(got) => got,
+        Err(e) => {
+            streams.read = Err(e);
+            0
+        }
+    };
+    if n == 0 {
         return Outcome { more: false, carry };
     }
-    let n = io::count(got, chunk);
-    let mut next = take(reply, out, line, &chunk[..n], carry);
+    let mut next = take(streams, reply, out, line, &chunk[..n], carry);
     let waiting = next.waiting;
-    flush(reply, waiting);
+    flush(streams, reply, waiting);
     next.waiting = 0;
     Outcome {
-        more: true,
+        more: streams.written.is_ok(),
         carry: next,
     }
 }
 
 // A proved loop has to end, so it counts its turns down from a number that no run uses up.
 fn run(
+    streams: &mut Streams,
     chunk: &mut [u8],
     reply: &mut [u8],
     out: &mut [u8; LINE],
@@ -494,7 +533,7 @@ fn run(
     let mut more = true;
     let mut turns = u64::MAX;
     while turns > 0 && more {
-        let t = turn(chunk, reply, out, line, carry);
+        let t = turn(streams, chunk, reply, out, line, carry);
         carry = t.carry;
         more = t.more;
         turns -= 1;
@@ -502,13 +541,20 @@ fn run(
     carry
 }
 
-fn main() {
-    let mut chunk = io::large_buffer();
-    let mut reply = io::large_buffer();
+fn main(rt: HostRuntime) -> io::Result<()> {
+    let mut streams = Streams {
+        input: rt.stdin(),
+        output: rt.stdout(),
+        read: Ok(()),
+        written: Ok(()),
+    };
+    let mut chunk = [0u8; 65_536];
+    let mut reply = [0u8; 65_536];
     let mut out = [0u8; LINE];
     let mut line = [0u8; 2050];
     let held = Held::nothing();
     let last = run(
+        &mut streams,
         &mut chunk,
         &mut reply,
         &mut out,
@@ -521,8 +567,10 @@ fn main() {
     );
     let kept = last.kept;
     if kept > 0 {
-        let done = finish(&mut reply, &mut out, &mut line, last);
+        let done = finish(&mut streams, &mut reply, &mut out, &mut line, last);
         let waiting = done.waiting;
-        flush(&reply, waiting);
+        flush(&mut streams, &reply, waiting);
     }
+    streams.read?;
+    streams.written
 }
