@@ -1,4 +1,6 @@
 // Segments lent as numbers, three to a segment, and the rounding and lookup rules over them: no array is copied.
+#![tactic(auto)]
+
 ghost use Rattle.std.specs.Prelude.{◌≡◌, ◌<◌, ◌≤◌, take, get_or, set};
 ghost use Rattle.units.specs.Limits.{date_max, segments_max, listed_max};
 ghost use Rattle.segmentation.specs.Capacity.{capacity};
