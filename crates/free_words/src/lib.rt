@@ -1,4 +1,6 @@
 // Lists of free time lent as numbers: the search for an offer, and the cut of a booking where the list stands.
+#![tactic(auto)]
+
 ghost use Rattle.std.specs.Prelude.{◌≡◌, true, ◌<◌, ◌≤◌, take, get_or};
 ghost use Rattle.units.specs.Limits.{segments_max, listed_max};
 ghost use Rattle.contact.specs.Segments.{zero_volume};
