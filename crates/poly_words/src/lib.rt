@@ -1,4 +1,6 @@
 // The polynomial manager's search over a free list lent as numbers.
+#![tactic(auto)]
+
 ghost use Rattle.std.specs.Prelude.{◌≡◌, true, [], ◌≤◌, take};
 ghost use Rattle.units.specs.Limits.{listed_max};
 ghost use Rattle.free_list.specs.Listed.{list_ok};
