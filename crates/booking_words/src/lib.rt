@@ -1,4 +1,6 @@
 // Lists of booked time lent as numbers: the search for a run, and the setting of a booking where the list stands.
+#![tactic(auto)]
+
 pub mod set;
 
 ghost use Rattle.std.specs.Prelude.{◌≡◌, ◌<◌, ◌≤◌, take, get_or, set};
