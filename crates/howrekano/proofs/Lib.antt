@@ -1,12 +1,3 @@
-pub mod Known
-pub mod Answer
-pub mod Outcome
-pub mod Thin
-pub mod Lends
-pub mod Asks
-pub mod Stores
-pub mod Queues
-pub mod Types
 pub mod FreeDryRun
 pub mod PolynomialDryRun
 pub mod Unique

@@ -12,7 +12,7 @@ use prog.Routine.{Routine}
 use types.Logic.{Logic}
 use contract.Lifetimes.{Lfts}
 use contract.Monad.{Fun, fact}
-use denote.Ref.{Bor}
+use denote.Ref.{Bor, MutBor}
 use denote.Triple.Clauses.{AtExit}
 use Rattle.units.specs.Limits.{listed_max}
 use Rattle.units.proofs.Determined.{Determined}
@@ -95,21 +95,36 @@ use Rattle.howrekano.specs.contracts.queue.hk_queue_enqueue as queue-enqueue
 use Rattle.howrekano.specs.contracts.queue.hk_queue_enqueue_kept as queue-enqueue-kept
 use Rattle.howrekano.specs.contracts.queue.hk_queue_dequeue as queue-dequeue
 use Rattle.howrekano.specs.contracts.queue.hk_queue_dequeue_kept as queue-dequeue-kept
-use Rattle.howrekano.proofs.Known.{Known, Of}
-use Rattle.howrekano.proofs.Outcome.{Outcome}
-use Rattle.howrekano.proofs.Types.{date, volume, bundle, dates, offer, opening, polynomial-opening, queue-opening, free-volume, free-opened, free-listing, room-left, free-booked, priority-seg, priority-opened, priority-listing, priority-booked, poly-seg, polynomial-opened, polynomial-listing, polynomial-booked, queue, queue-opened, queue-listing, queue-booked}
+use Rattle.howrekano.specs.declared.Opening.{Opening}
+use Rattle.howrekano.specs.declared.queue.QueueOpening.{QueueOpening}
+use Rattle.howrekano.specs.declared.polynomial.PolynomialOpening.{PolynomialOpening}
+use Rattle.units.specs.declared.Date.{Date}
+use Rattle.units.specs.declared.Volume.{Volume}
+use Rattle.units.specs.declared.Bundle.{Bundle}
+use Rattle.units.specs.declared.TxData.{TxData}
+use Rattle.units.specs.declared.Offer.{Offer}
+use Rattle.seg.specs.declared.Opened.{Opened as FreeOpened}
+use Rattle.seg.specs.declared.Listing.{Listing as FreeListing}
+use Rattle.seg.specs.declared.RoomLeft.{RoomLeft}
+use Rattle.pseg.specs.declared.Opened.{Opened as PriorityOpened}
+use Rattle.pseg.specs.declared.Listing.{Listing as PriorityListing}
+use Rattle.poly_seg.specs.declared.Opened.{Opened as PolynomialOpened}
+use Rattle.poly_seg.specs.declared.Listing.{Listing as PolynomialListing}
+use Rattle.legacy.specs.declared.Queue.{Queue}
+use Rattle.legacy.specs.declared.Opened.{Opened as QueueOpened}
+use Rattle.legacy.specs.declared.Listing.{Listing as QueueListing}
 
 -- by value
-pub free-opened-unique : (x : Of opening) → Determined (free-opened-reads.Post tt (x, tt))
+pub free-opened-unique : (x : Opening) → Determined (free-opened-reads.Post tt (x, tt))
 free-opened-unique x r q y z f g = f ∙ sym g
 
-pub priority-opened-unique : (x : Of opening) → Determined (priority-opened-reads.Post tt (x, tt))
+pub priority-opened-unique : (x : Opening) → Determined (priority-opened-reads.Post tt (x, tt))
 priority-opened-unique x r q y z f g = f ∙ sym g
 
-pub polynomial-opened-unique : (x : Of polynomial-opening) → Determined (polynomial-opened-reads.Post tt (x, tt))
+pub polynomial-opened-unique : (x : PolynomialOpening) → Determined (polynomial-opened-reads.Post tt (x, tt))
 polynomial-opened-unique x r q y z f g = f ∙ sym g
 
-pub queue-opened-unique : (x : Of queue-opening) → Determined (queue-opened-reads.Post tt (x, tt))
+pub queue-opened-unique : (x : QueueOpening) → Determined (queue-opened-reads.Post tt (x, tt))
 queue-opened-unique x r q y z f g = f ∙ sym g
 
 -- lists lent as numbers
@@ -209,113 +224,113 @@ module _ (κs : Lfts 6) (a : Dens κs polynomial-book-kept-kinds.ps) where
   polynomial-book-kept-left-unique k = all_left polynomial-left polynomial-numbers polynomial-count _ volumes_in (λ l k. same-volumes l k listed_max) (λ m. m.free.segments) (λ m. m.free.count) (λ x. refl) (λ x. refl) _ (λ x p. p.1)
 
 -- a lent record that is asked: the answer
-abbrev Answered : {X : Type 0} → X → X → Type 0
+abbrev pub Answered : {X : Type 0} → X → X → Type 0
 Answered a r = r ≡ a
 
 pub answered-unique : {X : Type 0} (a r q : X) → Answered a r → Answered a q → r ≡ q
 answered-unique a r q k l = k ∙ sym l
 
 -- a lent record that is changed: the number, and what stands behind the reference at exit
-abbrev Stored : {D : Known} (B : Outcome D) → B.Both → ℕ → Of D → Type 0
-Stored B a r t = (r ≡ B.number a) × (t ≡ B.manager a)
+abbrev pub Stored : {D : Type 0} → ℕ → D → ℕ → D → Type 0
+Stored n m r t = (r ≡ n) × (t ≡ m)
 
-pub stored-unique : {D : Known} (B : Outcome D) (a : B.Both) (r q : ℕ) (s t : Of D) → Stored B a r s → Stored B a q t → (r ≡ q) × (s ≡ t)
-stored-unique B a r q s t k l = (k.0 ∙ sym l.0, k.1 ∙ sym l.1)
+pub stored-unique : {D : Type 0} (n : ℕ) (m : D) (r q : ℕ) (s t : D) → Stored n m r s → Stored n m q t → (r ≡ q) × (s ≡ t)
+stored-unique n m r q s t k l = (k.0 ∙ sym l.0, k.1 ∙ sym l.1)
 
 -- they are what the contracts in src/ say
-module _ {M : Type 1} {𝓤 : Ura M} (𝓛 : Logic 𝓤) (mem : Memory → SProp 𝓤) (run : Routine → Fun 𝓤) (at : Of date) (b : Of bundle) where
-  module _ (m : Bor (Of free-volume)) where
+module _ {M : Type 1} {𝓤 : Ura M} (𝓛 : Logic 𝓤) (mem : Memory → SProp 𝓤) (run : Routine → Fun 𝓤) (at : Date) (b : Bundle) where
+  module _ (m : Bor FreeVolume) (w : MutBor FreeVolume) where
     module _ (κs : Lfts 1) where
-      pub free-open-says : (x : Bor (Of opening)) (r : Of free-opened) (e : AtExit free_open.ended κs) → (free_open.clauses 𝓛 mem run κs (x, tt)).ensures tt r e ≡ fact 𝓤 (Answered (free_open_of x.now.choices x.now.window x.now.rates x.now.rate_count x.now.delays x.now.delay_count) r)
+      pub free-open-says : (x : Bor Opening) (r : FreeOpened) (e : AtExit free_open.ended κs) → (free_open.clauses 𝓛 mem run κs (x, tt)).ensures tt r e ≡ fact 𝓤 (Answered (free_open_of x.now.choices x.now.window x.now.rates x.now.rate_count x.now.delays x.now.delay_count) r)
       free-open-says x r e = refl
 
       pub free-ok-says : (r : Bool) (e : AtExit free-ok.ended κs) → (free-ok.clauses 𝓛 mem run κs (m, tt)).ensures tt r e ≡ fact 𝓤 (Answered (free_ok m.now) r)
       free-ok-says r e = refl
 
-      pub free-list-says : (r : Of free-listing) (e : AtExit free-list.ended κs) → (free-list.clauses 𝓛 mem run κs (m, tt)).ensures tt r e ≡ fact 𝓤 (Answered (free_list_of m.now) r)
+      pub free-list-says : (r : FreeListing) (e : AtExit free-list.ended κs) → (free-list.clauses 𝓛 mem run κs (m, tt)).ensures tt r e ≡ fact 𝓤 (Answered (free_list_of m.now) r)
       free-list-says r e = refl
 
-      pub free-room-says : (r : Of room-left) (e : AtExit free-room.ended κs) → (free-room.clauses 𝓛 mem run κs (m, tt)).ensures tt r e ≡ fact 𝓤 (Answered (room_answer m.now) r)
+      pub free-room-says : (r : RoomLeft) (e : AtExit free-room.ended κs) → (free-room.clauses 𝓛 mem run κs (m, tt)).ensures tt r e ≡ fact 𝓤 (Answered (room_answer m.now) r)
       free-room-says r e = refl
 
-      pub free-room-kept-says : (r : Of volume) (e : AtExit free-room-kept.ended κs) → (free-room-kept.clauses 𝓛 mem run κs (m, tt)).ensures tt r e ≡ fact 𝓤 (Answered (room_in m.now) r)
+      pub free-room-kept-says : (r : Volume) (e : AtExit free-room-kept.ended κs) → (free-room-kept.clauses 𝓛 mem run κs (m, tt)).ensures tt r e ≡ fact 𝓤 (Answered (room_in m.now) r)
       free-room-kept-says r e = refl
 
-      pub free-dry-run-says : (r : Of offer) (e : AtExit free-dry-run.ended κs) → (free-dry-run.clauses 𝓛 mem run κs (m, (at, (b, tt)))).ensures tt r e ≡ fact 𝓤 (Answered (free_dry_run_of m.now at b) r)
+      pub free-dry-run-says : (r : Offer) (e : AtExit free-dry-run.ended κs) → (free-dry-run.clauses 𝓛 mem run κs (m, (at, (b, tt)))).ensures tt r e ≡ fact 𝓤 (Answered (free_dry_run_of m.now at b) r)
       free-dry-run-says r e = refl
 
-    module _ (κs : Lfts 2) (d : Bor (Of dates)) where
-      pub free-book-says : (r : ℕ) (e : AtExit free-book.ended κs) → (free-book.clauses 𝓛 mem run κs (m, (at, (b, (d, tt))))).ensures tt r e ≡ fact 𝓤 (Stored free-booked (free_book_of m.now at b d.now) r e.0.now)
+    module _ (κs : Lfts 2) (d : Bor TxData) where
+      pub free-book-says : (r : ℕ) (e : AtExit free-book.ended κs) → (free-book.clauses 𝓛 mem run κs (w, (at, (b, (d, tt))))).ensures tt r e ≡ fact 𝓤 (Stored (free_book_of w.now at b d.now).number (free_book_of w.now at b d.now).manager r e.0.now)
       free-book-says r e = refl
 
-  module _ (m : Bor (Of priority-seg)) where
+  module _ (m : Bor PrioritySeg) (w : MutBor PrioritySeg) where
     module _ (κs : Lfts 1) where
-      pub priority-open-says : (x : Bor (Of opening)) (r : Of priority-opened) (e : AtExit priority-open.ended κs) → (priority-open.clauses 𝓛 mem run κs (x, tt)).ensures tt r e ≡ fact 𝓤 (Answered (priority_open_of x.now.choices x.now.window x.now.rates x.now.rate_count x.now.delays x.now.delay_count) r)
+      pub priority-open-says : (x : Bor Opening) (r : PriorityOpened) (e : AtExit priority-open.ended κs) → (priority-open.clauses 𝓛 mem run κs (x, tt)).ensures tt r e ≡ fact 𝓤 (Answered (priority_open_of x.now.choices x.now.window x.now.rates x.now.rate_count x.now.delays x.now.delay_count) r)
       priority-open-says x r e = refl
 
       pub priority-ok-says : (r : Bool) (e : AtExit priority-ok.ended κs) → (priority-ok.clauses 𝓛 mem run κs (m, tt)).ensures tt r e ≡ fact 𝓤 (Answered (priority_ok m.now) r)
       priority-ok-says r e = refl
 
-      pub priority-list-says : (r : Of priority-listing) (e : AtExit priority-list.ended κs) → (priority-list.clauses 𝓛 mem run κs (m, tt)).ensures tt r e ≡ fact 𝓤 (Answered (priority_list_of m.now) r)
+      pub priority-list-says : (r : PriorityListing) (e : AtExit priority-list.ended κs) → (priority-list.clauses 𝓛 mem run κs (m, tt)).ensures tt r e ≡ fact 𝓤 (Answered (priority_list_of m.now) r)
       priority-list-says r e = refl
 
-      pub priority-dry-run-says : (r : Of offer) (e : AtExit priority-dry-run.ended κs) → (priority-dry-run.clauses 𝓛 mem run κs (m, (at, (b, tt)))).ensures tt r e ≡ fact 𝓤 (Answered (priority_dry_run_of m.now at b) r)
+      pub priority-dry-run-says : (r : Offer) (e : AtExit priority-dry-run.ended κs) → (priority-dry-run.clauses 𝓛 mem run κs (m, (at, (b, tt)))).ensures tt r e ≡ fact 𝓤 (Answered (priority_dry_run_of m.now at b) r)
       priority-dry-run-says r e = refl
 
-    module _ (κs : Lfts 2) (d : Bor (Of dates)) where
-      pub priority-book-says : (r : ℕ) (e : AtExit priority-book.ended κs) → (priority-book.clauses 𝓛 mem run κs (m, (at, (b, (d, tt))))).ensures tt r e ≡ fact 𝓤 (Stored priority-booked (priority_book_of m.now at b d.now) r e.0.now)
+    module _ (κs : Lfts 2) (d : Bor TxData) where
+      pub priority-book-says : (r : ℕ) (e : AtExit priority-book.ended κs) → (priority-book.clauses 𝓛 mem run κs (w, (at, (b, (d, tt))))).ensures tt r e ≡ fact 𝓤 (Stored (priority_book_of w.now at b d.now).number (priority_book_of w.now at b d.now).manager r e.0.now)
       priority-book-says r e = refl
 
-  module _ (m : Bor (Of poly-seg)) where
+  module _ (m : Bor PolySeg) (w : MutBor PolySeg) where
     module _ (κs : Lfts 1) where
-      pub polynomial-open-says : (x : Bor (Of polynomial-opening)) (r : Of polynomial-opened) (e : AtExit polynomial-open.ended κs) → (polynomial-open.clauses 𝓛 mem run κs (x, tt)).ensures tt r e ≡ fact 𝓤 (Answered (polynomial_open_of x.now.choices x.now.window x.now.polynome x.now.delays x.now.delay_count) r)
+      pub polynomial-open-says : (x : Bor PolynomialOpening) (r : PolynomialOpened) (e : AtExit polynomial-open.ended κs) → (polynomial-open.clauses 𝓛 mem run κs (x, tt)).ensures tt r e ≡ fact 𝓤 (Answered (polynomial_open_of x.now.choices x.now.window x.now.polynome x.now.delays x.now.delay_count) r)
       polynomial-open-says x r e = refl
 
       pub polynomial-ok-says : (r : Bool) (e : AtExit polynomial-ok.ended κs) → (polynomial-ok.clauses 𝓛 mem run κs (m, tt)).ensures tt r e ≡ fact 𝓤 (Answered (polynomial_ok m.now) r)
       polynomial-ok-says r e = refl
 
-      pub polynomial-list-says : (r : Of polynomial-listing) (e : AtExit polynomial-list.ended κs) → (polynomial-list.clauses 𝓛 mem run κs (m, tt)).ensures tt r e ≡ fact 𝓤 (Answered (polynomial_list_of m.now) r)
+      pub polynomial-list-says : (r : PolynomialListing) (e : AtExit polynomial-list.ended κs) → (polynomial-list.clauses 𝓛 mem run κs (m, tt)).ensures tt r e ≡ fact 𝓤 (Answered (polynomial_list_of m.now) r)
       polynomial-list-says r e = refl
 
-      pub polynomial-dry-run-says : (r : Of offer) (e : AtExit polynomial-dry-run.ended κs) → (polynomial-dry-run.clauses 𝓛 mem run κs (m, (at, (b, tt)))).ensures tt r e ≡ fact 𝓤 (Answered (polynomial_dry_run_of m.now at b) r)
+      pub polynomial-dry-run-says : (r : Offer) (e : AtExit polynomial-dry-run.ended κs) → (polynomial-dry-run.clauses 𝓛 mem run κs (m, (at, (b, tt)))).ensures tt r e ≡ fact 𝓤 (Answered (polynomial_dry_run_of m.now at b) r)
       polynomial-dry-run-says r e = refl
 
-    module _ (κs : Lfts 2) (d : Bor (Of dates)) where
-      pub polynomial-book-says : (r : ℕ) (e : AtExit polynomial-book.ended κs) → (polynomial-book.clauses 𝓛 mem run κs (m, (at, (b, (d, tt))))).ensures tt r e ≡ fact 𝓤 (Stored polynomial-booked (polynomial_book_of m.now at b d.now) r e.0.now)
+    module _ (κs : Lfts 2) (d : Bor TxData) where
+      pub polynomial-book-says : (r : ℕ) (e : AtExit polynomial-book.ended κs) → (polynomial-book.clauses 𝓛 mem run κs (w, (at, (b, (d, tt))))).ensures tt r e ≡ fact 𝓤 (Stored (polynomial_book_of w.now at b d.now).number (polynomial_book_of w.now at b d.now).manager r e.0.now)
       polynomial-book-says r e = refl
 
-  module _ (m : Bor (Of queue)) where
+  module _ (m : Bor Queue) (w : MutBor Queue) where
     module _ (κs : Lfts 1) where
-      pub queue-open-says : (x : Bor (Of queue-opening)) (r : Of queue-opened) (e : AtExit queue-open.ended κs) → (queue-open.clauses 𝓛 mem run κs (x, tt)).ensures tt r e ≡ fact 𝓤 (Answered (queue_open_of x.now.choices x.now.window x.now.rate x.now.delay x.now.classes x.now.flags x.now.budgets) r)
+      pub queue-open-says : (x : Bor QueueOpening) (r : QueueOpened) (e : AtExit queue-open.ended κs) → (queue-open.clauses 𝓛 mem run κs (x, tt)).ensures tt r e ≡ fact 𝓤 (Answered (queue_open_of x.now.choices x.now.window x.now.rate x.now.delay x.now.classes x.now.flags x.now.budgets) r)
       queue-open-says x r e = refl
 
       pub queue-ok-says : (r : Bool) (e : AtExit queue-ok.ended κs) → (queue-ok.clauses 𝓛 mem run κs (m, tt)).ensures tt r e ≡ fact 𝓤 (Answered (queue_ok m.now) r)
       queue-ok-says r e = refl
 
-      pub queue-list-says : (r : Of queue-listing) (e : AtExit queue-list.ended κs) → (queue-list.clauses 𝓛 mem run κs (m, tt)).ensures tt r e ≡ fact 𝓤 (Answered (queue_list_of m.now) r)
+      pub queue-list-says : (r : QueueListing) (e : AtExit queue-list.ended κs) → (queue-list.clauses 𝓛 mem run κs (m, tt)).ensures tt r e ≡ fact 𝓤 (Answered (queue_list_of m.now) r)
       queue-list-says r e = refl
 
-      pub queue-dry-run-says : (r : Of offer) (e : AtExit queue-dry-run.ended κs) → (queue-dry-run.clauses 𝓛 mem run κs (m, (at, (b, tt)))).ensures tt r e ≡ fact 𝓤 (Answered (queue_dry_run_of m.now at b) r)
+      pub queue-dry-run-says : (r : Offer) (e : AtExit queue-dry-run.ended κs) → (queue-dry-run.clauses 𝓛 mem run κs (m, (at, (b, tt)))).ensures tt r e ≡ fact 𝓤 (Answered (queue_dry_run_of m.now at b) r)
       queue-dry-run-says r e = refl
 
-      pub queue-dry-run-kept-says : (r : Of offer) (e : AtExit queue-dry-run-kept.ended κs) → (queue-dry-run-kept.clauses 𝓛 mem run κs (m, (at, (b, tt)))).ensures tt r e ≡ fact 𝓤 (Answered (queue_dry_run_of m.now at b) r)
+      pub queue-dry-run-kept-says : (r : Offer) (e : AtExit queue-dry-run-kept.ended κs) → (queue-dry-run-kept.clauses 𝓛 mem run κs (m, (at, (b, tt)))).ensures tt r e ≡ fact 𝓤 (Answered (queue_dry_run_of m.now at b) r)
       queue-dry-run-kept-says r e = refl
 
-      pub queue-enqueue-says : (r : ℕ) (e : AtExit queue-enqueue.ended κs) → (queue-enqueue.clauses 𝓛 mem run κs (m, (b, tt))).ensures tt r e ≡ fact 𝓤 (Stored queue-booked (enqueue_of m.now b) r e.0.now)
+      pub queue-enqueue-says : (r : ℕ) (e : AtExit queue-enqueue.ended κs) → (queue-enqueue.clauses 𝓛 mem run κs (w, (b, tt))).ensures tt r e ≡ fact 𝓤 (Stored (enqueue_of w.now b).number (enqueue_of w.now b).manager r e.0.now)
       queue-enqueue-says r e = refl
 
-      pub queue-enqueue-kept-says : (r : ℕ) (e : AtExit queue-enqueue-kept.ended κs) → (queue-enqueue-kept.clauses 𝓛 mem run κs (m, (b, tt))).ensures tt r e ≡ fact 𝓤 (Stored queue-booked (enqueue_of m.now b) r e.0.now)
+      pub queue-enqueue-kept-says : (r : ℕ) (e : AtExit queue-enqueue-kept.ended κs) → (queue-enqueue-kept.clauses 𝓛 mem run κs (w, (b, tt))).ensures tt r e ≡ fact 𝓤 (Stored (enqueue_of w.now b).number (enqueue_of w.now b).manager r e.0.now)
       queue-enqueue-kept-says r e = refl
 
-      pub queue-dequeue-says : (r : ℕ) (e : AtExit queue-dequeue.ended κs) → (queue-dequeue.clauses 𝓛 mem run κs (m, (b, tt))).ensures tt r e ≡ fact 𝓤 (Stored queue-booked (dequeue_of m.now b) r e.0.now)
+      pub queue-dequeue-says : (r : ℕ) (e : AtExit queue-dequeue.ended κs) → (queue-dequeue.clauses 𝓛 mem run κs (w, (b, tt))).ensures tt r e ≡ fact 𝓤 (Stored (dequeue_of w.now b).number (dequeue_of w.now b).manager r e.0.now)
       queue-dequeue-says r e = refl
 
-      pub queue-dequeue-kept-says : (r : ℕ) (e : AtExit queue-dequeue-kept.ended κs) → (queue-dequeue-kept.clauses 𝓛 mem run κs (m, (b, tt))).ensures tt r e ≡ fact 𝓤 (Stored queue-booked (dequeue_of m.now b) r e.0.now)
+      pub queue-dequeue-kept-says : (r : ℕ) (e : AtExit queue-dequeue-kept.ended κs) → (queue-dequeue-kept.clauses 𝓛 mem run κs (w, (b, tt))).ensures tt r e ≡ fact 𝓤 (Stored (dequeue_of w.now b).number (dequeue_of w.now b).manager r e.0.now)
       queue-dequeue-kept-says r e = refl
 
-    module _ (κs : Lfts 2) (d : Bor (Of dates)) where
-      pub queue-book-says : (r : ℕ) (e : AtExit queue-book.ended κs) → (queue-book.clauses 𝓛 mem run κs (m, (at, (b, (d, tt))))).ensures tt r e ≡ fact 𝓤 (Stored queue-booked (queue_book_of m.now at b d.now) r e.0.now)
+    module _ (κs : Lfts 2) (d : Bor TxData) where
+      pub queue-book-says : (r : ℕ) (e : AtExit queue-book.ended κs) → (queue-book.clauses 𝓛 mem run κs (w, (at, (b, (d, tt))))).ensures tt r e ≡ fact 𝓤 (Stored (queue_book_of w.now at b d.now).number (queue_book_of w.now at b d.now).manager r e.0.now)
       queue-book-says r e = refl
 
-      pub queue-book-kept-says : (r : ℕ) (e : AtExit queue-book-kept.ended κs) → (queue-book-kept.clauses 𝓛 mem run κs (m, (at, (b, (d, tt))))).ensures tt r e ≡ fact 𝓤 (Stored queue-booked (queue_book_of m.now at b d.now) r e.0.now)
+      pub queue-book-kept-says : (r : ℕ) (e : AtExit queue-book-kept.ended κs) → (queue-book-kept.clauses 𝓛 mem run κs (w, (at, (b, (d, tt))))).ensures tt r e ≡ fact 𝓤 (Stored (queue_book_of w.now at b d.now).number (queue_book_of w.now at b d.now).manager r e.0.now)
       queue-book-kept-says r e = refl

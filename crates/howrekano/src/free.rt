@@ -31,52 +31,45 @@ pub fn opened(x: Opening) -> seg::Opened
     FreeVolume::open(choices, window, rates, rate_count, delays, delay_count)
 }
 
-#[unsafe(no_mangle)]
-pub extern "C" fn hk_free_open(x: &Opening) -> seg::Opened
+pub fn hk_free_open(x: &Opening) -> seg::Opened
     ensures { result ≡ open_of x.now.choices x.now.window x.now.rates x.now.rate_count x.now.delays x.now.delay_count }
 {
     opened(*x)
 }
 
 // Does the record keep its rules?
-#[unsafe(no_mangle)]
-pub extern "C" fn hk_free_ok(m: &FreeVolume) -> bool
+pub fn hk_free_ok(m: &FreeVolume) -> bool
     ensures { result ≡ record_ok m.now }
 {
     (*m).ok()
 }
 
-#[unsafe(no_mangle)]
-pub extern "C" fn hk_free_list(m: &FreeVolume) -> seg::Listing
+pub fn hk_free_list(m: &FreeVolume) -> seg::Listing
     ensures { result ≡ list_of m.now }
 {
     (*m).list()
 }
 
-#[unsafe(no_mangle)]
-pub extern "C" fn hk_free_room(m: &FreeVolume) -> seg::RoomLeft
+pub fn hk_free_room(m: &FreeVolume) -> seg::RoomLeft
     ensures { result ≡ room_answer m.now }
 {
     (*m).room()
 }
 
-#[unsafe(no_mangle)]
-pub extern "C" fn hk_free_room_kept(m: &FreeVolume) -> Volume
+pub fn hk_free_room_kept(m: &FreeVolume) -> Volume
     requires { record_ok m.now ≡ true }
     ensures { result ≡ room_in m.now }
 {
     (*m).room_kept()
 }
 
-#[unsafe(no_mangle)]
-pub extern "C" fn hk_free_dry_run(m: &FreeVolume, at: Date, bundle: Bundle) -> Offer
+pub fn hk_free_dry_run(m: &FreeVolume, at: Date, bundle: Bundle) -> Offer
     ensures { result ≡ dry_run_of m.now at bundle }
 {
     (*m).dry_run(at, bundle)
 }
 
-#[unsafe(no_mangle)]
-pub extern "C" fn hk_free_book(m: &mut FreeVolume, at: Date, bundle: Bundle, dates: &TxData) -> u8
+pub fn hk_free_book(m: &mut FreeVolume, at: Date, bundle: Bundle, dates: &TxData) -> u8
     ensures { (result ≡ (book_of m.old at bundle dates.now).number) × (m.new ≡ (book_of m.old at bundle dates.now).manager) }
 {
     let done = (*m).book(at, bundle, *dates);
@@ -118,8 +111,7 @@ fn chosen(
     }
 }
 
-#[unsafe(no_mangle)]
-pub extern "C" fn hk_free_dry_run_kept(
+pub fn hk_free_dry_run_kept(
     window: Interval,
     rates: &[u64; SEGMENTS],
     rate_count: usize,
@@ -148,8 +140,7 @@ pub extern "C" fn hk_free_dry_run_kept(
     words::answer_at(named.rule, delays, delay_count, send)
 }
 
-#[unsafe(no_mangle)]
-pub extern "C" fn hk_free_book_kept(
+pub fn hk_free_book_kept(
     window: Interval,
     rates: &[u64; SEGMENTS],
     rate_count: usize,

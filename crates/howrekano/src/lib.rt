@@ -1,4 +1,6 @@
-// The static library: every call of every manager for C and Rust. The total calls are thin ones over the managers' own calls by value.
+// Every call of every manager on lent records, for Rust, and for C by the static library of howrekano_c. The total calls are thin ones over the managers' own calls by value.
+#![tactic(auto)]
+
 pub mod free;
 pub mod polynomial;
 pub mod priority;
@@ -13,7 +15,7 @@ use units::{Date, Interval, TxData};
 
 // An opening's choices and figures.
 #[repr(C)]
-#[derive(Drop)]
+#[derive(Clone, Copy)]
 pub struct Opening {
     pub choices: Choices,
     pub window: Interval,

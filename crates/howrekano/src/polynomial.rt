@@ -18,7 +18,7 @@ use words::{LISTED, SEGMENTS};
 
 // An opening's choices and figures.
 #[repr(C)]
-#[derive(Drop)]
+#[derive(Clone, Copy)]
 pub struct PolynomialOpening {
     pub choices: Choices,
     pub window: Interval,
@@ -39,42 +39,32 @@ pub fn opened(x: PolynomialOpening) -> poly_seg::Opened
     PolySeg::open(choices, window, polynome, delays, delay_count)
 }
 
-#[unsafe(no_mangle)]
-pub extern "C" fn hk_polynomial_open(x: &PolynomialOpening) -> poly_seg::Opened
+pub fn hk_polynomial_open(x: &PolynomialOpening) -> poly_seg::Opened
     ensures { result ≡ open_of x.now.choices x.now.window x.now.polynome x.now.delays x.now.delay_count }
 {
     opened(*x)
 }
 
 // Does the record keep its rules?
-#[unsafe(no_mangle)]
-pub extern "C" fn hk_polynomial_ok(m: &PolySeg) -> bool
+pub fn hk_polynomial_ok(m: &PolySeg) -> bool
     ensures { result ≡ record_ok m.now }
 {
     (*m).ok()
 }
 
-#[unsafe(no_mangle)]
-pub extern "C" fn hk_polynomial_list(m: &PolySeg) -> poly_seg::Listing
+pub fn hk_polynomial_list(m: &PolySeg) -> poly_seg::Listing
     ensures { result ≡ list_of m.now }
 {
     (*m).list()
 }
 
-#[unsafe(no_mangle)]
-pub extern "C" fn hk_polynomial_dry_run(m: &PolySeg, at: Date, bundle: Bundle) -> Offer
+pub fn hk_polynomial_dry_run(m: &PolySeg, at: Date, bundle: Bundle) -> Offer
     ensures { result ≡ dry_run_of m.now at bundle }
 {
     (*m).dry_run(at, bundle)
 }
 
-#[unsafe(no_mangle)]
-pub extern "C" fn hk_polynomial_book(
-    m: &mut PolySeg,
-    at: Date,
-    bundle: Bundle,
-    dates: &TxData,
-) -> u8
+pub fn hk_polynomial_book(m: &mut PolySeg, at: Date, bundle: Bundle, dates: &TxData) -> u8
     ensures { (result ≡ (book_of m.old at bundle dates.now).number) × (m.new ≡ (book_of m.old at bundle dates.now).manager) }
 {
     let done = (*m).book(at, bundle, *dates);
@@ -126,8 +116,7 @@ fn chosen(
     }
 }
 
-#[unsafe(no_mangle)]
-pub extern "C" fn hk_polynomial_dry_run_kept(
+pub fn hk_polynomial_dry_run_kept(
     window: Interval,
     coefficients: &[i64; 4],
     offset: Date,
@@ -160,8 +149,7 @@ pub extern "C" fn hk_polynomial_dry_run_kept(
 }
 
 // The list is cut where it stands. There are no rates: none of the numbers lent in their place is read, and the list has no room.
-#[unsafe(no_mangle)]
-pub extern "C" fn hk_polynomial_book_kept(
+pub fn hk_polynomial_book_kept(
     window: Interval,
     coefficients: &[i64; 4],
     offset: Date,

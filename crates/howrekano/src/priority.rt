@@ -26,42 +26,32 @@ pub fn opened(x: Opening) -> pseg::Opened
     PrioritySeg::open(choices, window, rates, rate_count, delays, delay_count)
 }
 
-#[unsafe(no_mangle)]
-pub extern "C" fn hk_priority_open(x: &Opening) -> pseg::Opened
+pub fn hk_priority_open(x: &Opening) -> pseg::Opened
     ensures { result ≡ open_of x.now.choices x.now.window x.now.rates x.now.rate_count x.now.delays x.now.delay_count }
 {
     opened(*x)
 }
 
 // Does the record keep its rules?
-#[unsafe(no_mangle)]
-pub extern "C" fn hk_priority_ok(m: &PrioritySeg) -> bool
+pub fn hk_priority_ok(m: &PrioritySeg) -> bool
     ensures { result ≡ record_ok m.now }
 {
     (*m).ok()
 }
 
-#[unsafe(no_mangle)]
-pub extern "C" fn hk_priority_list(m: &PrioritySeg) -> pseg::Listing
+pub fn hk_priority_list(m: &PrioritySeg) -> pseg::Listing
     ensures { result ≡ list_of m.now }
 {
     (*m).list()
 }
 
-#[unsafe(no_mangle)]
-pub extern "C" fn hk_priority_dry_run(m: &PrioritySeg, at: Date, bundle: Bundle) -> Offer
+pub fn hk_priority_dry_run(m: &PrioritySeg, at: Date, bundle: Bundle) -> Offer
     ensures { result ≡ dry_run_of m.now at bundle }
 {
     (*m).dry_run(at, bundle)
 }
 
-#[unsafe(no_mangle)]
-pub extern "C" fn hk_priority_book(
-    m: &mut PrioritySeg,
-    at: Date,
-    bundle: Bundle,
-    dates: &TxData,
-) -> u8
+pub fn hk_priority_book(m: &mut PrioritySeg, at: Date, bundle: Bundle, dates: &TxData) -> u8
     ensures { (result ≡ (book_of m.old at bundle dates.now).number) × (m.new ≡ (book_of m.old at bundle dates.now).manager) }
 {
     let done = (*m).book(at, bundle, *dates);
@@ -69,8 +59,7 @@ pub extern "C" fn hk_priority_book(
     done.number
 }
 
-#[unsafe(no_mangle)]
-pub extern "C" fn hk_priority_dry_run_kept(
+pub fn hk_priority_dry_run_kept(
     window: Interval,
     rates: &[u64; SEGMENTS],
     rate_count: usize,
@@ -101,8 +90,7 @@ pub extern "C" fn hk_priority_dry_run_kept(
 }
 
 // The booking is set where the list stands.
-#[unsafe(no_mangle)]
-pub extern "C" fn hk_priority_book_kept(
+pub fn hk_priority_book_kept(
     window: Interval,
     rates: &[u64; SEGMENTS],
     rate_count: usize,

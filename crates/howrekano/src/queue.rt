@@ -12,7 +12,7 @@ use units::{Bundle, Date, Delay, Interval, Offer, Rate, TxData, Volume};
 
 // An opening's choices and figures.
 #[repr(C)]
-#[derive(Drop)]
+#[derive(Clone, Copy)]
 pub struct QueueOpening {
     pub choices: Choices,
     pub window: Interval,
@@ -37,45 +37,39 @@ pub fn opened(x: QueueOpening) -> legacy::Opened
     Queue::open(choices, window, rate, delay, classes, flags, budgets)
 }
 
-#[unsafe(no_mangle)]
-pub extern "C" fn hk_queue_open(x: &QueueOpening) -> legacy::Opened
+pub fn hk_queue_open(x: &QueueOpening) -> legacy::Opened
     ensures { result ≡ open_of x.now.choices x.now.window x.now.rate x.now.delay x.now.classes x.now.flags x.now.budgets }
 {
     opened(*x)
 }
 
 // Does the record keep its rules?
-#[unsafe(no_mangle)]
-pub extern "C" fn hk_queue_ok(m: &Queue) -> bool
+pub fn hk_queue_ok(m: &Queue) -> bool
     ensures { result ≡ record_ok m.now }
 {
     (*m).ok()
 }
 
-#[unsafe(no_mangle)]
-pub extern "C" fn hk_queue_list(m: &Queue) -> legacy::Listing
+pub fn hk_queue_list(m: &Queue) -> legacy::Listing
     ensures { result ≡ list_of m.now }
 {
     (*m).list()
 }
 
-#[unsafe(no_mangle)]
-pub extern "C" fn hk_queue_dry_run(m: &Queue, at: Date, bundle: Bundle) -> Offer
+pub fn hk_queue_dry_run(m: &Queue, at: Date, bundle: Bundle) -> Offer
     ensures { result ≡ dry_run_of m.now at bundle }
 {
     (*m).dry_run(at, bundle)
 }
 
-#[unsafe(no_mangle)]
-pub extern "C" fn hk_queue_dry_run_kept(m: &Queue, at: Date, bundle: Bundle) -> Offer
+pub fn hk_queue_dry_run_kept(m: &Queue, at: Date, bundle: Bundle) -> Offer
     requires { record_ok m.now ≡ true }
     ensures { result ≡ dry_run_of m.now at bundle }
 {
     (*m).dry_run_kept(at, bundle)
 }
 
-#[unsafe(no_mangle)]
-pub extern "C" fn hk_queue_book(m: &mut Queue, at: Date, bundle: Bundle, dates: &TxData) -> u8
+pub fn hk_queue_book(m: &mut Queue, at: Date, bundle: Bundle, dates: &TxData) -> u8
     ensures { (result ≡ (book_of m.old at bundle dates.now).number) × (m.new ≡ (book_of m.old at bundle dates.now).manager) }
 {
     let done = (*m).book(at, bundle, *dates);
@@ -83,8 +77,7 @@ pub extern "C" fn hk_queue_book(m: &mut Queue, at: Date, bundle: Bundle, dates: 
     done.number
 }
 
-#[unsafe(no_mangle)]
-pub extern "C" fn hk_queue_book_kept(m: &mut Queue, at: Date, bundle: Bundle, dates: &TxData) -> u8
+pub fn hk_queue_book_kept(m: &mut Queue, at: Date, bundle: Bundle, dates: &TxData) -> u8
     requires { record_ok m.old ≡ true }
     ensures { (result ≡ (book_of m.old at bundle dates.now).number) × (m.new ≡ (book_of m.old at bundle dates.now).manager) }
 {
@@ -93,8 +86,7 @@ pub extern "C" fn hk_queue_book_kept(m: &mut Queue, at: Date, bundle: Bundle, da
     done.number
 }
 
-#[unsafe(no_mangle)]
-pub extern "C" fn hk_queue_enqueue(m: &mut Queue, bundle: Bundle) -> u8
+pub fn hk_queue_enqueue(m: &mut Queue, bundle: Bundle) -> u8
     ensures { (result ≡ (enqueue_of m.old bundle).number) × (m.new ≡ (enqueue_of m.old bundle).manager) }
 {
     let done = (*m).enqueue(bundle);
@@ -102,8 +94,7 @@ pub extern "C" fn hk_queue_enqueue(m: &mut Queue, bundle: Bundle) -> u8
     done.number
 }
 
-#[unsafe(no_mangle)]
-pub extern "C" fn hk_queue_enqueue_kept(m: &mut Queue, bundle: Bundle) -> u8
+pub fn hk_queue_enqueue_kept(m: &mut Queue, bundle: Bundle) -> u8
     requires { record_ok m.old ≡ true }
     ensures { (result ≡ (enqueue_of m.old bundle).number) × (m.new ≡ (enqueue_of m.old bundle).manager) }
 {
@@ -112,8 +103,7 @@ pub extern "C" fn hk_queue_enqueue_kept(m: &mut Queue, bundle: Bundle) -> u8
     done.number
 }
 
-#[unsafe(no_mangle)]
-pub extern "C" fn hk_queue_dequeue(m: &mut Queue, bundle: Bundle) -> u8
+pub fn hk_queue_dequeue(m: &mut Queue, bundle: Bundle) -> u8
     ensures { (result ≡ (dequeue_of m.old bundle).number) × (m.new ≡ (dequeue_of m.old bundle).manager) }
 {
     let done = (*m).dequeue(bundle);
@@ -121,8 +111,7 @@ pub extern "C" fn hk_queue_dequeue(m: &mut Queue, bundle: Bundle) -> u8
     done.number
 }
 
-#[unsafe(no_mangle)]
-pub extern "C" fn hk_queue_dequeue_kept(m: &mut Queue, bundle: Bundle) -> u8
+pub fn hk_queue_dequeue_kept(m: &mut Queue, bundle: Bundle) -> u8
     requires { record_ok m.old ≡ true }
     ensures { (result ≡ (dequeue_of m.old bundle).number) × (m.new ≡ (dequeue_of m.old bundle).manager) }
 {
