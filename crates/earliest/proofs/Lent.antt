@@ -1,4 +1,4 @@
--- R-8 over the promises of the static library's calls in src/, to which the record, or its lists as numbers, are lent.
+-- R-8 over the promises of the library's calls, to which the record, or its lists as numbers, are lent; the static library exports them with the same contracts (howrekano_c, proofs/Exported).
 use Prim.Native.Nat.{ℕ}
 use mathlib.Core.Bool.{true}
 use mathlib.Core.Path.{◌≡◌, sym, ◌∙◌}
@@ -11,6 +11,7 @@ use types.Logic.{Logic}
 use contract.Lifetimes.{Lfts}
 use contract.Fact.{fact_i, fact_use}
 use contract.Monad.{Fun, fact}
+use denote.MutBor.{MutBor}
 use denote.Ref.{Bor}
 use denote.Triple.Clauses.{AtExit}
 use Rattle.units.specs.declared.Date.{Date}
@@ -45,6 +46,9 @@ module _ {M : Type 1} {𝓤 : Ura M} (𝓛 : Logic 𝓤) (mem : Memory → SProp
       → ent 𝓤 ((dry_run.clauses 𝓛 mem run κs (m, (at, (b, tt)))).ensures tt o e) (fact 𝓤 ((Earliest m.now at b o) × (Rest m.now b o)))
   lent-earliest fits κs o e = told 𝓤 _ _ (λ is. rw is (dry-earliest m.now at b ok none fits))
 
+-- the record behind a reference through which it is changed
+module _ {M : Type 1} {𝓤 : Ura M} (𝓛 : Logic 𝓤) (mem : Memory → SProp 𝓤) (run : Routine → Fun 𝓤) (m : MutBor PrioritySeg) (at : Date) (b : Bundle)
+    (ok : record_ok m.now ≡ true) (none : NoEmpty m.now) where
   pub lent-booked-earliest : (κs : Lfts 2) (d : Bor TxData) (n : ℕ) (e : AtExit book.ended κs)
       → ent 𝓤 ((book.clauses 𝓛 mem run κs (m, (at, (b, (d, tt))))).ensures tt n e) (fact 𝓤 (n ≡ 0 → Least (StartIn m.now at b) d.now.send.start.0))
   lent-booked-earliest κs d n e = told 𝓤 _ _ (λ is zero. book-earliest m.now at b d.now ok none (sym is.0 ∙ zero))
