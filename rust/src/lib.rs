@@ -1,4 +1,4 @@
-//! Contact managers that cannot double-book a pass.
+//! Contact managers for relay passes; the free-volume manager cannot double-book one, by a theorem.
 //!
 //! A contact manager answers, for one contact of a delay-tolerant network,
 //! when a bundle can be sent, and books the time. The four managers here are
