@@ -24,11 +24,6 @@ module _ (a b : Date) (v : ℕ) where
   row_written line at {p = p} e f g h k =
       and_then line at _ _ (word-length 8 _) e (and_then _ p _ _ (word-length 8 _) f g (omega arith)) h
 
--- a row with a value that is known
-pub valued : (a b : Date) (line : List ℕ) (at : ℕ) {v w : ℕ} {end : List ℕ} → v ≡ w → end ≡ written line at (row_text a b v)
-    → end ≡ written line at (row_text a b w)
-valued a b line at e f = rw e at f
-
 -- the bits of the value of a level: all ones for 0, which stands for -1; else one below it
 pub none-bits : (level : ℕ) → level ≡ 0 → 18446744073709551615 ≡ bits_of (value_of (record { 0 = level }))
 unfolding bits_of

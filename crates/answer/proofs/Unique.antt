@@ -10,20 +10,16 @@ use Rattle.answer.proofs.put_number.Kinds as number-kinds
 use Rattle.answer.proofs.put_number.Reads as number-reads
 use Rattle.answer.proofs.put_offer.Kinds as offer-kinds
 use Rattle.answer.proofs.put_offer.Reads as offer-reads
-use Rattle.answer.proofs.put_volumes.Kinds as volumes-kinds
-use Rattle.answer.proofs.put_volumes.Reads as volumes-reads
-use Rattle.answer.proofs.put_bookings.Kinds as bookings-kinds
-use Rattle.answer.proofs.put_bookings.Reads as bookings-reads
+use Rattle.answer.proofs.put_list.Kinds as list-kinds
+use Rattle.answer.proofs.put_list.Reads as list-reads
+use Rattle.answer.proofs.rows.put_rows.Kinds as rows-kinds
+use Rattle.answer.proofs.rows.put_rows.Reads as rows-reads
+use Rattle.answer.specs.declared.rows.Row.{Ghosts}
+use denote.RattleType.{RattleType}
+use denote.Param.Laws.{Laws}
+use mir.Syntax.{Dict}
 use Rattle.answer.proofs.put_room.Kinds as room-kinds
 use Rattle.answer.proofs.put_room.Reads as room-reads
-use Rattle.answer.proofs.put_queues.Kinds as queues-kinds
-use Rattle.answer.proofs.put_queues.Reads as queues-reads
-use Rattle.answer.proofs.rows.put_volumes.Kinds as volume-rows-kinds
-use Rattle.answer.proofs.rows.put_volumes.Reads as volume-rows-reads
-use Rattle.answer.proofs.rows.put_bookings.Kinds as booking-rows-kinds
-use Rattle.answer.proofs.rows.put_bookings.Reads as booking-rows-reads
-use Rattle.answer.proofs.rows.put_queues.Kinds as queue-rows-kinds
-use Rattle.answer.proofs.rows.put_queues.Reads as queue-rows-reads
 
 -- the answer, and what stands behind the reference at the end
 record Outcome : Type 0 where
@@ -50,30 +46,16 @@ module _ (κs : Lfts 1) where
       → Determined (Leaves (λ (s : AtExit (ended_of 1 offer-kinds.ps offer-kinds.r) κs). s.0.now) (offer-reads.Post κs a))
   offer-unique a = named _ _ _
 
-  pub volumes-unique : (a : Dens κs volumes-kinds.ps)
-      → Determined (Leaves (λ (s : AtExit (ended_of 1 volumes-kinds.ps volumes-kinds.r) κs). s.0.now) (volumes-reads.Post κs a))
-  volumes-unique a = named _ _ _
-
-  pub bookings-unique : (a : Dens κs bookings-kinds.ps)
-      → Determined (Leaves (λ (s : AtExit (ended_of 1 bookings-kinds.ps bookings-kinds.r) κs). s.0.now) (bookings-reads.Post κs a))
-  bookings-unique a = named _ _ _
-
-  pub queues-unique : (a : Dens κs queues-kinds.ps)
-      → Determined (Leaves (λ (s : AtExit (ended_of 1 queues-kinds.ps queues-kinds.r) κs). s.0.now) (queues-reads.Post κs a))
-  queues-unique a = named _ _ _
-
   pub room-unique : (a : Dens κs room-kinds.ps)
       → Determined (Leaves (λ (s : AtExit (ended_of 1 room-kinds.ps room-kinds.r) κs). s.0.now) (room-reads.Post κs a))
   room-unique a = named _ _ _
 
-  pub volume-rows-unique : (a : Dens κs volume-rows-kinds.ps)
-      → Determined (Leaves (λ (s : AtExit (ended_of 1 volume-rows-kinds.ps volume-rows-kinds.r) κs). s.0.now) (volume-rows-reads.Post κs a))
-  volume-rows-unique a = named _ _ _
+-- the writers of lists, of whatever has rows
+module _ (T : RattleType) (L : Laws T) (row : Ghosts T.Denot) (d : Dict) (κs : Lfts 3) where
+  pub list-unique : (a : Dens κs (list-kinds.ps T L))
+      → Determined (Leaves (λ (s : AtExit (ended_of 3 (list-kinds.ps T L) (list-kinds.r T L)) κs). s.0.now) (list-reads.Post T L row d κs a))
+  list-unique a = named _ _ _
 
-  pub booking-rows-unique : (a : Dens κs booking-rows-kinds.ps)
-      → Determined (Leaves (λ (s : AtExit (ended_of 1 booking-rows-kinds.ps booking-rows-kinds.r) κs). s.0.now) (booking-rows-reads.Post κs a))
-  booking-rows-unique a = named _ _ _
-
-  pub queue-rows-unique : (a : Dens κs queue-rows-kinds.ps)
-      → Determined (Leaves (λ (s : AtExit (ended_of 1 queue-rows-kinds.ps queue-rows-kinds.r) κs). s.0.now) (queue-rows-reads.Post κs a))
-  queue-rows-unique a = named _ _ _
+  pub rows-unique : (a : Dens κs (rows-kinds.ps T L))
+      → Determined (Leaves (λ (s : AtExit (ended_of 3 (rows-kinds.ps T L) (rows-kinds.r T L)) κs). s.0.now) (rows-reads.Post T L row d κs a))
+  rows-unique a r q x y f g = named (λ (s : AtExit (ended_of 3 (rows-kinds.ps T L) (rows-kinds.r T L)) κs). s.0.now) _ _ r q x y (f.0, (f.1.0, f.1.1.0)) (g.0, (g.1.0, g.1.1.0))

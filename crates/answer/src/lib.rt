@@ -1,4 +1,5 @@
 // An answer's line: the number in one byte, what stands after it, and the line end. Each writer stores its line at the front of the lent one and gives its length.
+// The number stands beside its value, as in the managers' answers that C reads (`Offer`, `Listing`, `RoomLeft`) and in `list_line` and `room_line`.
 #![tactic(auto)]
 
 pub mod rows;
@@ -6,12 +7,10 @@ pub mod rows;
 ghost use Rattle.std.specs.Prelude.{◌≡◌, ◌≤◌, length};
 ghost use Rattle.units.specs.Limits.{listed_max};
 ghost use Rattle.text.specs.Line.{written};
-ghost use Rattle.answer.specs.Lines.{number_line, offer_line, volumes_line, bookings_line, queues_line, room_line};
-ghost use Rattle.legacy.specs.Open.{classes_max};
+ghost use Rattle.text.specs.Text.{list_text};
+ghost use Rattle.answer.specs.Lines.{number_line, offer_line, list_line, room_line};
 
-use bookings::Bookings;
-use free_list::FreeList;
-use legacy::Queue;
+use rows::Row;
 use text::LINE;
 use units::{Offer, Volume};
 
@@ -30,68 +29,27 @@ pub fn put_offer(out: &mut [u8; LINE], offer: Offer) -> usize
     ensures value { result ≡ length (offer_line offer) }
     ensures out_after { out.new ≡ written out.old 0 (offer_line offer) }
 {
-    let number = offer.number;
-    if number != 0 {
-        return put_number(out, number);
+    if offer.number != 0 {
+        return put_number(out, offer.number);
     }
-    let dates = offer.dates;
     text::put_byte(out, 0, 0);
-    text::put_dates(out, 2, dates);
+    text::put_dates(out, 2, offer.dates);
     text::put_line_end(out, 66);
     67
 }
 
-// A list of free time: after 0, a count and (start, end, volume)s.
-pub fn put_volumes(out: &mut [u8; LINE], number: u8, list: FreeList) -> usize
-    requires { list.count ≤ listed_max }
-    ensures value { result ≡ length (volumes_line number list) }
-    ensures out_after { out.new ≡ written out.old 0 (volumes_line number list) }
-{
-    if number != 0 {
-        return put_number(out, number);
-    }
-    let count = list.count;
-    text::put_byte(out, 0, 0);
-    text::put_byte(out, 2, count as u8);
-    let at = rows::put_volumes(out, list);
-    text::put_line_end(out, at);
-    at + 1
-}
-
-// A list of booked time: after 0, a count and (start, end, priority)s.
-pub fn put_bookings(out: &mut [u8; LINE], number: u8, list: Bookings) -> usize
-    requires { list.count ≤ listed_max }
-    ensures value { result ≡ length (bookings_line number list) }
-    ensures out_after { out.new ≡ written out.old 0 (bookings_line number list) }
-{
-    if number != 0 {
-        return put_number(out, number);
-    }
-    let count = list.count;
-    text::put_byte(out, 0, 0);
-    text::put_byte(out, 2, count as u8);
-    let at = rows::put_bookings(out, list);
-    text::put_line_end(out, at);
-    at + 1
-}
-
-// A queue record's list: after 0, the class count and each class's queue.
-pub fn put_queues(
-    out: &mut [u8; LINE],
-    number: u8,
-    classes: usize,
-    queues: [Volume; Queue::CLASSES_MAX],
-) -> usize
-    requires { classes ≤ classes_max }
-    ensures value { result ≡ length (queues_line number classes queues) }
-    ensures out_after { out.new ≡ written out.old 0 (queues_line number classes queues) }
+// A list: after 0, how many rows, and the rows. Of free time (start, end, volume)s, of booked time (start, end, priority)s, of a queue record each class's queue.
+pub fn put_list<R: Row>(out: &mut [u8; LINE], number: u8, list: &[R]) -> usize
+    requires { length list.now ≤ listed_max }
+    ensures value { result ≡ length (list_line number (length list.now) (list_text R.text list.now)) }
+    ensures out_after { out.new ≡ written out.old 0 (list_line number (length list.now) (list_text R.text list.now)) }
 {
     if number != 0 {
         return put_number(out, number);
     }
     text::put_byte(out, 0, 0);
-    text::put_byte(out, 2, classes as u8);
-    let at = rows::put_queues(out, classes, queues);
+    text::put_byte(out, 2, list.len() as u8);
+    let at = rows::put_rows(out, list);
     text::put_line_end(out, at);
     at + 1
 }

@@ -1,12 +1,14 @@
 -- What the test of a list tells, that facts give it back, and how it is computed turn by turn.
-use Prim.Native.Nat.{ℕ, ◌<◌, ◌≤◌}
-use mathlib.Core.Bool.{Bool, true, false}
-use mathlib.Core.Path.{◌≡◌, refl, sym, ap, ◌∙◌}
+use Prim.Native.Nat.{ℕ, ◌+◌, ◌<◌, ◌≤◌}
+use mathlib.Core.Bool.{true, false}
+use mathlib.Core.Path.{◌≡◌, ap, ◌∙◌}
 use mathlib.Core.List.{List, [], ◌∷◌}
 use native.Mathlib.Omega.{arith}
-use lib.Dec.{leb, eqb}
-use borrow.Author.Tests.{eqb-true, leb-true, eq-eqb, ne_eqb, le-leb, lt-leb}
+use lib.Dec.{eqb}
+use lib.ListN.{length, drop, get_or, drop_of_length-le}
+use borrow.Author.Tests.{eqb-true, leb-true, eq-eqb, le-leb}
 use Rattle.units.specs.Logic.{both}
+use Rattle.units.proofs.Loop.{at-whole}
 use Rattle.units.proofs.Logic.{both-fst, both-snd, both_go, both-stop, both_yes}
 use Rattle.bookings.specs.declared.BookingSegment.{BookingSegment}
 use Rattle.bookings.specs.Listed.{level_max, follows, cover_ok}
@@ -40,48 +42,22 @@ from-cover lo a b (g ∷ f) h q = (omega (arith, q.0), from-cover lo g.end.0 b f
 pub cover-from : (lo hi : ℕ) (f : List BookingSegment) → cover_ok lo hi f ≡ true → From lo f
 cover-from lo hi f e = from-cover lo lo hi f (omega arith) (cover-of lo hi f e)
 
--- The test of one segment, case by case.
-module _ (good : Bool) (a : ℕ) (g : BookingSegment) where
-  pub follows-bad : good ≡ false → both good (follows a g) ≡ false
-  follows-bad h = both-stop good (follows a g) h
-
-  module _ (h : good ≡ true) where
-    pub follows-gap : (g.start.0 ≡ a → ⊥) → both good (follows a g) ≡ false
-    unfolding follows
-    follows-gap k = both_go good (follows a g) h ∙ both-stop _ _ (ne_eqb _ _ k)
-
-    module _ (k : g.start.0 ≡ a) where
-      pub follows-back : g.end.0 < g.start.0 → both good (follows a g) ≡ false
-      unfolding follows
-      follows-back j = both_go good (follows a g) h ∙ both_go _ _ (eq-eqb _ _ k) ∙ both-stop _ _ (lt-leb _ _ j)
-
-      pub follows_on : g.start.0 ≤ g.end.0 → both good (follows a g) ≡ leb g.level.0 level_max
-      unfolding follows
-      follows_on j = both_go good (follows a g) h ∙ both_go _ _ (eq-eqb _ _ k) ∙ both_go _ _ (le-leb _ _ j)
-
--- The loop's state: all good so far, and the date reached.
-abbrev pub cover_on : ℕ → Bool × ℕ → List BookingSegment → Bool
-cover_on b s l = both s.0 (cover_ok s.1 b l)
-
-both-assoc : (x y z : Bool) → both x (both y z) ≡ both (both x y) z
-unfolding both
-both-assoc true y z = refl
-both-assoc false y z = refl
-
-module _ (b : ℕ) where
-  pub cover-whole : (a : ℕ) (l : List BookingSegment) → cover_on b (true, a) l ≡ cover_ok a b l
-  unfolding both
-  cover-whole a l = refl
-
-  pub cover-turn : (good : Bool) (a : ℕ) (g : BookingSegment) (l : List BookingSegment) (x : Bool) → x ≡ both good (follows a g)
-      → cover_on b (good, a) (g ∷ l) ≡ cover_on b (x, g.end.0) l
+-- A `for` over the segments: what is left of the list covers what is left of the window.
+module _ (b a₀ : ℕ) (l : List BookingSegment) (a i : ℕ) (q : cover_ok a₀ b l ≡ cover_ok a b (drop i l)) where
+  pub cover-end : length l ≤ i → cover_ok a₀ b l ≡ eqb a b
   unfolding cover_ok
-  cover-turn good a g l x h =
-      both-assoc good (follows a g) (cover_ok g.end.0 b l) ∙ ap (λ (k : Bool). both k (cover_ok g.end.0 b l)) (sym h)
+  cover-end h = q ∙ ap (cover_ok a b) (drop_of_length-le l h)
 
-  pub cover-bad : (good : Bool) (a : ℕ) → good ≡ false → cover_on b (good, a) [] ≡ false
-  cover-bad good a h = both-stop good _ h
+  module _ (z : BookingSegment) (lt : i < length l) where
+    abbrev g : BookingSegment
+    g = get_or l i z
 
-  pub cover-last : (good : Bool) (a : ℕ) → good ≡ true → cover_on b (good, a) [] ≡ eqb a b
-  unfolding cover_ok
-  cover-last good a h = both_go good _ h
+    cover-here : cover_ok a₀ b l ≡ both (follows a g) (cover_ok g.end.0 b (drop (i + 1) l))
+    unfolding cover_ok
+    cover-here = q ∙ ap (cover_ok a b) (at-whole l i z lt)
+
+    pub cover-fails : follows a g ≡ false → cover_ok a₀ b l ≡ false
+    cover-fails h = cover-here ∙ both-stop _ _ h
+
+    pub cover-on : follows a g ≡ true → cover_ok a₀ b l ≡ cover_ok g.end.0 b (drop (i + 1) l)
+    cover-on h = cover-here ∙ both_go _ _ h

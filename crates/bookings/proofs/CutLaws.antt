@@ -1,68 +1,41 @@
 -- What a booking leaves of a segment, as the code returns it.
-use Prim.Native.Nat.{ℕ, ◌<◌, ◌≤◌, max, min}
+use Prim.Native.Nat.{◌<◌, ℕ, max, min}
+use mathlib.Core.Bool.{Bool, true, false}
 use mathlib.Core.Path.{◌≡◌, refl, sym, ap, ◌∙◌}
-use mathlib.Core.List.{[], ◌∷◌}
-use native.Mathlib.Omega.{arith}
+use mathlib.Core.List.{List, [], ◌∷◌, ◌++◌}
+use lib.Dec.{ltb}
+use borrow.Author.Tests.{lt-ltb, le-ltb}
+use Rattle.std.specs.Bool.{then_some}
+use Rattle.std.specs.Ordering.{nat_cmp, is_lt}
+use Rattle.units.proofs.Compare.{lt-yes, lt-not}
+use Rattle.units.specs.Logic.{pick}
 use Rattle.units.specs.declared.Date.{Date}
 use Rattle.bookings.specs.declared.Level.{Level}
 use Rattle.bookings.specs.declared.BookingSegment.{BookingSegment}
-use Rattle.bookings.specs.declared.Parts.{Parts}
-use Rattle.bookings.specs.Cut.{segment, sent_of, parts_of}
-use Rattle.bookings.specs.Granted.{Cuts}
-use Rattle.bookings.proofs.Forms.{parts-early, parts-late, parts_whole, parts-left, parts-right, parts-inside}
-
-abbrev pub made : BookingSegment → BookingSegment → BookingSegment → ℕ → ℕ → Parts
-made b m a n k = record { before = b; middle = m; after = a; befores = n; afters = k }
+use Rattle.bookings.specs.Cut.{segment, before_of, after_of, parts_of}
+use Rattle.bookings.specs.Granted.{part_of, laid_parts}
+use Rattle.bookings.proofs.Forms.{parts-on}
 
 abbrev pub stretch : Date → Date → Level → BookingSegment
 stretch a b w = record { start = a; end = b; level = w }
 
--- the segment reaches into the send interval, and x to y is what they share
-pub record Shared (s e : Date) (g : BookingSegment) (x y : Date) : Type 0 where
-  pub past : s.0 < g.end.0
-  pub until : g.start.0 < e.0
-  pub from : x.0 ≡ max g.start.0 s.0
-  pub to : y.0 ≡ min g.end.0 e.0
+-- a comparison, as a test
+lower : (a b : ℕ) (r : Bool) → r ≡ is_lt (nat_cmp a b) → r ≡ ltb a b
+lower a b true e = sym (lt-ltb a b (lt-yes a b true e refl))
+lower a b false e = sym (le-ltb a b (lt-not a b false e refl))
 
-module _ (s e w : ℕ) (g b m : BookingSegment) where
-  cut-one : parts_of s e w g ≡ m ∷ [] → Cuts s e w g (made b m m 0 0)
-  cut-one h = record { few = omega arith; less = omega arith; again = λ z. refl; same = sym h }
+-- a part that is there where a test holds
+part-where : (b c : Bool) (g : BookingSegment) → b ≡ c → part_of (then_some b g) ≡ pick c (g ∷ []) []
+part-where true c g h = rw (sym h) refl
+part-where false c g h = rw (sym h) refl
 
-  cut_left : parts_of s e w g ≡ b ∷ m ∷ [] → Cuts s e w g (made b m m 1 0)
-  cut_left h = record { few = omega arith; less = omega arith; again = λ z. refl; same = sym h }
-
-  module _ (a : BookingSegment) where
-    cut_right : parts_of s e w g ≡ m ∷ a ∷ [] → Cuts s e w g (made b m a 0 1)
-    cut_right h = record { few = omega arith; less = omega arith; again = λ (z : ◌≡◌ {A = ℕ} 1 0). absurd (omega arith); same = sym h }
-
-    cut-both : parts_of s e w g ≡ b ∷ m ∷ a ∷ [] → Cuts s e w g (made b m a 1 1)
-    cut-both h = record { few = omega arith; less = omega arith; again = λ (z : ◌≡◌ {A = ℕ} 1 0). absurd (omega arith); same = sym h }
-
-module _ (s e : Date) (w : Level) (g : BookingSegment) where
-  pub off-early : g.end.0 ≤ s.0 → Cuts s.0 e.0 w.0 g (made g g g 0 0)
-  off-early h = cut-one _ _ _ g g g (parts-early _ _ _ _ h)
-
-  pub off-late : s.0 < g.end.0 → e.0 ≤ g.start.0 → Cuts s.0 e.0 w.0 g (made g g g 0 0)
-  off-late h k = cut-one _ _ _ g g g (parts-late _ _ _ _ h k)
-
-  module _ (x y : Date) (q : Shared s e g x y) where
-    abbrev before : BookingSegment
-    before = stretch g.start s g.level
-
-    abbrev after : BookingSegment
-    after = stretch e g.end g.level
-
-    middle : sent_of s.0 e.0 w.0 g ≡ stretch x y w
-    middle = sym (ap (λ (n : ℕ). segment n y.0 w.0) q.from ∙ ap (λ (n : ℕ). segment (max g.start.0 s.0) n w.0) q.to)
-
-    pub on-whole : s.0 ≤ g.start.0 → g.end.0 ≤ e.0 → Cuts s.0 e.0 w.0 g (made before (stretch x y w) (stretch x y w) 0 0)
-    on-whole a b = cut-one _ _ _ g _ _ (parts_whole _ _ _ _ q.past q.until a b ∙ ap (λ (m : BookingSegment). m ∷ []) middle)
-
-    pub on-left : g.start.0 < s.0 → g.end.0 ≤ e.0 → Cuts s.0 e.0 w.0 g (made before (stretch x y w) (stretch x y w) 1 0)
-    on-left a b = cut_left _ _ _ g _ _ (parts-left _ _ _ _ q.past q.until a b ∙ ap (λ (m : BookingSegment). before ∷ m ∷ []) middle)
-
-    pub on-right : s.0 ≤ g.start.0 → e.0 < g.end.0 → Cuts s.0 e.0 w.0 g (made before (stretch x y w) after 0 1)
-    on-right a b = cut_right _ _ _ g _ _ _ (parts-right _ _ _ _ q.past q.until a b ∙ ap (λ (m : BookingSegment). m ∷ after ∷ []) middle)
-
-    pub on-inside : g.start.0 < s.0 → e.0 < g.end.0 → Cuts s.0 e.0 w.0 g (made before (stretch x y w) after 1 1)
-    on-inside a b = cut-both _ _ _ g _ _ _ (parts-inside _ _ _ _ q.past q.until a b ∙ ap (λ (m : BookingSegment). before ∷ m ∷ after ∷ []) middle)
+-- the segment reaches into the send interval; x to y is what they share; b and a tell whether a part is left before and after
+pub cut-on : (s e : Date) (w : Level) (g : BookingSegment) (x y : Date) (b a : Bool) → s.0 < g.end.0 → g.start.0 < e.0
+    → x.0 ≡ max g.start.0 s.0 → y.0 ≡ min g.end.0 e.0 → b ≡ is_lt (nat_cmp g.start.0 s.0) → a ≡ is_lt (nat_cmp e.0 g.end.0)
+    → laid_parts (record { before = then_some b (stretch g.start s g.level); middle = stretch x y w; after = then_some a (stretch e g.end g.level) }) ≡ parts_of s.0 e.0 w.0 g
+cut-on s e w g x y b a past until from to hb ha =
+    ap (λ (l : List BookingSegment). l ++ (stretch x y w ∷ part_of (then_some a (stretch e g.end g.level)))) (part-where b _ (stretch g.start s g.level) (lower _ _ b hb))
+    ∙ ap (λ (l : List BookingSegment). before_of s.0 g ++ (stretch x y w ∷ l)) (part-where a _ (stretch e g.end g.level) (lower _ _ a ha))
+    ∙ ap (λ (n : ℕ). before_of s.0 g ++ (segment n y.0 w.0 ∷ after_of e.0 g)) from
+    ∙ ap (λ (n : ℕ). before_of s.0 g ++ (segment (max g.start.0 s.0) n w.0 ∷ after_of e.0 g)) to
+    ∙ sym (parts-on s.0 e.0 w.0 g past until)

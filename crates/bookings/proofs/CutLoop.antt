@@ -1,130 +1,128 @@
--- The states of the loops that lay the booked list and count it, and the record with the list.
-use Prim.Native.Nat.{ℕ, ◌+◌, ◌*◌, ◌<◌, ◌≤◌}
+-- The loop that lays the booked list: what is listed so far, with what the others leave, is the whole; and the answer with it.
+use Prim.Native.Nat.{ℕ, ◌+◌, ◌<◌, ◌≤◌}
 use mathlib.Core.Path.{◌≡◌, refl, sym, ap, ◌∙◌}
 use mathlib.Core.List.{List, [], ◌∷◌, ◌++◌, append_assoc, append-nil}
 use native.Mathlib.Omega.{arith}
-use lib.ListN.{length, take, drop, get_or, set, replicate, length-take, length-append}
+use lib.ListN.{length, drop, get_or, set, drop_of_length-le, length-append}
 use borrow.Author.Tests.{le-leb, lt-leb}
+use Rattle.std.specs.Prelude.{Ok, Err}
 use Rattle.units.specs.Limits.{listed_max}
-use Rattle.units.proofs.Arrays.{padded-none}
-use Rattle.units.proofs.Loop.{Left, left-first}
-use Rattle.units.proofs.Places.{place_end, place_here, place-step}
-use Rattle.units.proofs.Stores.{store-three}
+use Rattle.units.specs.declared.refusal.Refusal.{Refusal}
+use Rattle.units.specs.declared.refusal.Refusal.TheVariants.{Full}
+use Rattle.units.proofs.Arrays.{take-padded, padded-store}
+use Rattle.units.proofs.Loop.{at-whole}
 use Rattle.bookings.specs.declared.BookingSegment.{BookingSegment}
 use Rattle.bookings.specs.declared.Bookings.{Bookings}
 use Rattle.bookings.specs.declared.Parts.{Parts}
-use Rattle.bookings.specs.declared.Set.{Set}
 use Rattle.bookings.specs.Listed.{listed}
-use Rattle.bookings.specs.Cut.{segment, set_of, laid_of, set_bookings}
-use Rattle.bookings.specs.Granted.{laid_parts, Cuts}
+use Rattle.bookings.specs.Cut.{segment, parts_of, set_of, laid_of, list_in, set_bookings}
+use Rattle.bookings.specs.Granted.{laid_parts, Tidy, Holds, Overflows, set_in}
 
-module _ (s e w : ℕ) where
-  set-none : set_of s e w [] ≡ []
-  unfolding set_of
-  set-none = refl
+pub listed_in : (f : List BookingSegment) → listed (list_in f) ≡ f
+listed_in f = take-padded listed_max (segment 0 0 0) f (length f) refl
 
-  module _ (g : BookingSegment) (c : Parts) (cut : Cuts s e w g c) (f : List BookingSegment) where
-    -- a turn's parts come in front
-    set_next : set_of s e w (g ∷ f) ≡ laid_parts c ++ set_of s e w f
-    unfolding set_of
-    set_next = ap (λ (k : List BookingSegment). k ++ set_of s e w f) (sym cut.same)
+module _ (b x : Bookings) (f : List BookingSegment) (q : Holds b f x) where
+  pub listed-holds : listed x ≡ listed b ++ f
+  listed-holds = ap (λ (r : Bookings). listed r) q.is ∙ listed_in (listed b ++ f)
 
-    parts-length : length (laid_parts c) ≡ c.befores + c.afters + 1
-    parts-length =
-        let few = cut.few in
-        let less = cut.less in
-        simp (length-append, length-take) (omega arith)
+  pub tidy-holds : Tidy x
+  tidy-holds =
+      record { is = q.is ∙ ap list_in (sym listed-holds); few = omega (arith, q.few, ap (λ (l : List BookingSegment). length l) listed-holds) }
 
-    next-length : length (set_of s e w (g ∷ f)) ≡ c.befores + c.afters + 1 + length (set_of s e w f)
-    next-length = ap (λ (k : List BookingSegment). length k) set_next ∙ length-append (laid_parts c) (set_of s e w f) ∙ omega (arith, parts-length)
+  -- and then others
+  module _ (g : List BookingSegment) where
+    again : listed x ++ g ≡ listed b ++ (f ++ g)
+    again = ap (λ (l : List BookingSegment). l ++ g) listed-holds ∙ append_assoc (listed b) f g
 
-  -- `laid`: what the segments so far leave, with what the others do
-  abbrev lay_on : List BookingSegment → List BookingSegment → List BookingSegment
-  lay_on done l = done ++ set_of s e w l
+    pub holds-both : (y : Bookings) → Holds x g y → Holds b (f ++ g) y
+    holds-both y p = record { is = p.is ∙ ap list_in again; few = omega (arith, p.few, ap (λ (l : List BookingSegment). length l) again) }
 
-  -- `grown`: how many they are
-  abbrev grow_on : ℕ → List BookingSegment → ℕ
-  grow_on m l = m + length (set_of s e w l)
+    pub overflows-after : (e : Refusal) → Overflows x g e → Overflows b (f ++ g) e
+    overflows-after e p = record { full = p.full; many = omega (arith, p.many, ap (λ (l : List BookingSegment). length l) again) }
 
-pub record Laying (s e w : ℕ) (l : List BookingSegment) (n i m : ℕ) (out : List BookingSegment) : Type 0 where
-  pub done : List BookingSegment
-  pub left : Left (lay_on s e w) l n [] i done
-  pub count : length done ≡ m
-  pub is : out ≡ laid_of done
+-- where some have no room, they and others have none
+pub overflows-more : (b : Bookings) (f g : List BookingSegment) (e : Refusal) → Overflows b f e → Overflows b (f ++ g) e
+overflows-more b f g e p = record { full = p.full; many = let h = p.many in simp length-append (omega (arith, length-append (listed b) f)) }
 
-pub record Growing (s e w : ℕ) (l : List BookingSegment) (n i m : ℕ) : Type 0 where
-  pub left : Left (grow_on s e w) l n 0 i m
-  pub small : m ≤ 3 * i
+-- `push`: a store at the count
+module _ (b : Bookings) (q : Tidy b) where
+  count-is : b.count ≡ length (listed b)
+  count-is = ap (λ (r : Bookings). r.count) q.is
 
-module _ (s e w : ℕ) (old : List BookingSegment) (n : ℕ) where
-  pub lay-first : Laying s e w (take n old) n 0 0 (replicate listed_max (segment 0 0 0))
-  lay-first = record { done = []; left = left-first _ _ _ _; count = refl; is = padded-none listed_max (segment 0 0 0) }
+  pub push-none : Holds b [] b
+  push-none = record { is = q.is ∙ ap list_in (sym (append-nil (listed b))); few = omega (arith, q.few, ap (λ (l : List BookingSegment). length l) (append-nil (listed b))) }
 
-  pub grow_first : Growing s e w (take n old) n 0 0
-  grow_first = record { left = left-first _ _ _ _; small = omega arith }
+  module _ (g : BookingSegment) where
+    more : length (listed b ++ (g ∷ [])) ≡ b.count + 1
+    more = length-append (listed b) (g ∷ []) ∙ omega (arith, count-is)
 
-  pub lay-last : (i m : ℕ) (out : List BookingSegment) → Laying s e w (take n old) n i m out → n ≤ i → out ≡ laid_of (set_of s e w (take n old))
-  lay-last i m out q h =
-      let a : set_of s e w (take n old) ≡ q.done ++ set_of s e w [] = place_end (lay_on s e w) old n [] i q.done q.left h in
-      rw (a, set-none s e w, append-nil) q.is
-
-  pub grow_last : (i m : ℕ) → Growing s e w (take n old) n i m → n ≤ i → m ≡ length (set_of s e w (take n old))
-  grow_last i m q h =
-      let a : 0 + length (set_of s e w (take n old)) ≡ m + length (set_of s e w []) = place_end (grow_on s e w) old n 0 i m q.left h in
-      omega (arith, a, ap (λ (k : List BookingSegment). length k) (set-none s e w))
-
-  -- a turn at place i, whose segment leaves the parts c
-  module _ (i m : ℕ) (z : BookingSegment) (size : n ≤ length old) (lt : i < n) (c : Parts) (cut : Cuts s e w (get_or old i z) c) where
-    abbrev rest : List BookingSegment
-    rest = drop (i + 1) (take n old)
-
-    module _ (out : List BookingSegment) (q : Laying s e w (take n old) n i m out) (fit : length (set_of s e w (take n old)) ≤ listed_max) where
-      -- the array has room for them
-      pub lay-room : m + c.befores + c.afters < listed_max
-      lay-room =
-          let a = place_here (lay_on s e w) old n [] i q.done q.left z size lt in
-          let b : length (set_of s e w (take n old)) ≡ length q.done + length (set_of s e w (get_or old i z ∷ rest)) =
-          ap (λ (k : List BookingSegment). length k) a ∙ length-append q.done (set_of s e w (get_or old i z ∷ rest)) in
-          omega (arith, b, q.count, next-length s e w (get_or old i z) c cut rest, fit)
-
-      pub lay_step : Laying s e w (take n old) n (i + 1) (m + c.befores + c.afters + 1)
-          (set (set (set out m c.before) (m + c.befores) c.middle) (m + c.befores + c.afters) c.after)
-      lay_step =
-          record {
-            done = q.done ++ laid_parts c;
-            left =
-                place-step (lay_on s e w) old n [] i q.done q.left z size lt (q.done ++ laid_parts c)
-                (ap (λ (k : List BookingSegment). q.done ++ k) (set_next s e w (get_or old i z) c cut rest)
-                ∙ sym (append_assoc q.done (laid_parts c) (set_of s e w rest)));
-            count = length-append q.done (laid_parts c) ∙ omega (arith, q.count, parts-length s e w (get_or old i z) c cut rest);
-            is =
-                rw q.is
-                (store-three listed_max (segment 0 0 0) m c.befores c.afters q.done c.before c.middle c.after cut.few cut.less cut.again q.count lay-room);
-          }
-
-    pub grow-step : Growing s e w (take n old) n i m → Growing s e w (take n old) n (i + 1) (m + c.befores + c.afters + 1)
-    grow-step q =
-        let few = cut.few in
-        let less = cut.less in
+    pub push-some : b.count < listed_max → Holds b (g ∷ []) (record { segments = set b.segments b.count g; count = b.count + 1 })
+    push-some h =
         record {
-          left =
-              place-step (grow_on s e w) old n 0 i m q.left z size lt (m + c.befores + c.afters + 1)
-              (omega (arith, next-length s e w (get_or old i z) c cut rest));
-          small = omega (arith, q.small);
+          is = ap (λ (l : List BookingSegment). let r : Bookings = record { segments = set l b.count g; count = b.count + 1 } in r) (ap (λ (r : Bookings). r.segments) q.is)
+              ∙ ap (λ (l : List BookingSegment). let r : Bookings = record { segments = l; count = b.count + 1 } in r) (padded-store listed_max (segment 0 0 0) (listed b) g b.count (sym count-is) h)
+              ∙ ap (λ (n : ℕ). let r : Bookings = record { segments = laid_of (listed b ++ (g ∷ [])); count = n } in r) (sym more);
+          few = omega (arith, more);
         }
 
--- `set`: 10 and the list as it came, or 0 and the list with the booking
-abbrev pub full : Bookings → Set
-full r = record { number = 10; bookings = r }
+    pub push-full : listed_max ≤ b.count → Overflows b (g ∷ []) Full
+    push-full h = record { full = refl; many = omega (arith, more) }
 
-abbrev pub kept : List BookingSegment → ℕ → Set
-kept out k = record { number = 0; bookings = record { segments = out; count = k } }
+-- `set`: what is listed so far, with what the others leave, is the whole
+module _ (s e w : ℕ) where
+  pub record Laying (l : List BookingSegment) (i : ℕ) (b : Bookings) : Type 0 where
+    pub tidy : Tidy b
+    pub same : set_of s e w l ≡ listed b ++ set_of s e w (drop i l)
 
-module _ (r : Bookings) (s e w k : ℕ) (is : k ≡ length (set_of s e w (listed r))) where
-  pub set_full : listed_max < k → full r ≡ set_bookings r s e w
+  pub lay-first : (l : List BookingSegment) (b : Bookings) → b ≡ list_in [] → Laying l 0 b
+  lay-first l b h =
+      record {
+        tidy = rw h (record { is = ap list_in (sym (listed_in [])); few = omega (arith, listed_in []) });
+        same = ap (λ (k : List BookingSegment). k ++ set_of s e w l) (sym (listed_in []) ∙ ap (λ (r : Bookings). listed r) (sym h));
+      }
+
+  module _ (l : List BookingSegment) (i : ℕ) (b : Bookings) (q : Laying l i b) where
+    lay-none : length l ≤ i → set_of s e w l ≡ listed b
+    unfolding set_of
+    lay-none h = q.same ∙ ap (λ (k : List BookingSegment). listed b ++ set_of s e w k) (drop_of_length-le l h) ∙ append-nil (listed b)
+
+    module _ (z : BookingSegment) (lt : i < length l) (c : Parts) (is : laid_parts c ≡ parts_of s e w (get_or l i z)) where
+      lay-here : set_of s e w l ≡ (listed b ++ laid_parts c) ++ set_of s e w (drop (i + 1) l)
+      unfolding set_of
+      lay-here =
+          q.same
+          ∙ ap (λ (k : List BookingSegment). listed b ++ set_of s e w k) (at-whole l i z lt)
+          ∙ ap (λ (k : List BookingSegment). listed b ++ (k ++ set_of s e w (drop (i + 1) l))) (sym is)
+          ∙ sym (append_assoc (listed b) (laid_parts c) (set_of s e w (drop (i + 1) l)))
+
+      pub lay-on : (x : Bookings) → Holds b (laid_parts c) x → Laying l (i + 1) x
+      lay-on x p =
+          record {
+            tidy = tidy-holds b x (laid_parts c) p;
+            same = lay-here ∙ ap (λ (k : List BookingSegment). k ++ set_of s e w (drop (i + 1) l)) (sym (listed-holds b x (laid_parts c) p));
+          }
+
+      pub lay-many : (x : Refusal) → Overflows b (laid_parts c) x → listed_max < length (set_of s e w l)
+      lay-many x p =
+          let many = p.many in
+          omega (arith, ap (λ (k : List BookingSegment). length k) lay-here ∙ length-append (listed b ++ laid_parts c) (set_of s e w (drop (i + 1) l)))
+
+module _ (r : Bookings) (s e w : ℕ) where
+  -- 10 and the list as it came
+  pub set_full : (x : Refusal) → listed_max < length (set_of s e w (listed r)) → x ≡ Full → set_in r (Err x) ≡ set_bookings r s e w
   unfolding set_bookings
-  set_full h = let many : listed_max < length (set_of s e w (listed r)) = omega arith in rw (lt-leb _ _ many)
+  set_full x h q = rw (lt-leb _ _ h, q) refl
 
-  pub set-fits : (out : List BookingSegment) → k ≤ listed_max → out ≡ laid_of (set_of s e w (listed r)) → kept out k ≡ set_bookings r s e w
+  -- 0 and the list with the booking
+  pub set-fits : (b : Bookings) → length (set_of s e w (listed r)) ≤ listed_max → b ≡ list_in (set_of s e w (listed r)) → set_in r (Ok b) ≡ set_bookings r s e w
   unfolding set_bookings
-  set-fits out h o = let few : length (set_of s e w (listed r)) ≤ listed_max = omega arith in rw (le-leb _ _ few, o, is)
+  set-fits b h q = rw (le-leb _ _ h, q) refl
+
+  pub lay-last : (i : ℕ) (b : Bookings) → Laying s e w (listed r) i b → length (listed r) ≤ i → set_in r (Ok b) ≡ set_bookings r s e w
+  lay-last i b q h =
+      let is = lay-none s e w (listed r) i b q h in
+      set-fits b (omega (arith, q.tidy.few, ap (λ (k : List BookingSegment). length k) is)) (q.tidy.is ∙ ap list_in (sym is))
+
+  pub lay-stop : (i : ℕ) (b : Bookings) → Laying s e w (listed r) i b → (z : BookingSegment) → i < length (listed r) → (c : Parts)
+      → laid_parts c ≡ parts_of s e w (get_or (listed r) i z) → (x : Refusal) → Overflows b (laid_parts c) x → set_in r (Err x) ≡ set_bookings r s e w
+  lay-stop i b q z lt c is x p = set_full x (lay-many s e w (listed r) i b q z lt c is x p) p.full

@@ -9,11 +9,10 @@ use Rattle.units.specs.declared.Date.{Date}
 use Rattle.units.specs.declared.Interval.{Interval}
 use Rattle.units.specs.Answer.{interval}
 use Rattle.units.proofs.Numbers.{le-or-lt}
-use Rattle.segmentation.specs.declared.End.{End}
-use Rattle.segmentation.specs.declared.End.TheVariants.{At, None}
 use Rattle.bookings.specs.declared.BookingSegment.{BookingSegment}
-use Rattle.bookings.specs.declared.Run.{Run}
-use Rattle.bookings.specs.declared.Run.TheVariants.{Idle, Going, Sent}
+use Rattle.std.specs.declared.ops.ControlFlow.TheVariants.{Continue, Break}
+use Rattle.bookings.specs.Search.{Run}
+use Rattle.std.specs.Prelude.{Option, Some, None}
 use Rattle.bookings.specs.Listed.{cover_ok}
 use Rattle.bookings.specs.Search.{reach_of, begin_of, broken_of, free_of, turn_of, search_of}
 use Rattle.bookings.specs.Fits.{Reaches, Fits, Unfit, FirstFit, NoFit, FindsFirst}
@@ -22,8 +21,8 @@ use Rattle.bookings.proofs.CoverLaws.{Cover, cover-of}
 use Rattle.bookings.proofs.SearchLaws.{reach_now, reach-later, turn-skip, turn-broken, turn-free, turn-going, sent-stays}
 
 -- all that is asked of the end rule: a later start ends no sooner
-abbrev pub Later : (ℕ → End) → Type 0
-Later E = (s u : ℕ) (d e : Date) → s ≤ u → E s ≡ At d → E u ≡ At e → d.0 ≤ e.0
+abbrev pub Later : (ℕ → Option Date) → Type 0
+Later E = (s u : ℕ) (d e : Date) → s ≤ u → E s ≡ Some d → E u ≡ Some e → d.0 ≤ e.0
 
 -- Which segments reach a date.
 module _ (p e : ℕ) (g : BookingSegment) (f : List BookingSegment) where
@@ -52,23 +51,23 @@ reaches-sooner p d e [] h k = k
 reaches-sooner p d e (g ∷ f) h k =
     (k.0, ⊎_elim (λ x. inl (omega (arith, x))) (λ (x : Reaches p e f). inr (reaches-sooner p d e f h x)) k.1)
 
-module _ (E : ℕ → End) (t p : ℕ) where
+module _ (E : ℕ → Option Date) (t p : ℕ) where
   -- what an outcome says of the segments
   unfoldable Tells : List BookingSegment → Run → Type 0
-  Tells f (Sent send) = FirstFit E t p f send
-  Tells f (Going run) = NoFit E t p f
-  Tells f Idle = NoFit E t p f
+  Tells f (Break send) = FirstFit E t p f send
+  Tells f (Continue (Some run)) = NoFit E t p f
+  Tells f (Continue None) = NoFit E t p f
 
   module _ (g : BookingSegment) (f : List BookingSegment) where
     -- a segment from which no run fits is passed over
     tells-on : Unfit E t p g f → (x : Run) → Tells f x → Tells (g ∷ f) x
     unfolding Tells FirstFit NoFit
-    tells-on n (Sent send) q = inr (n, q)
-    tells-on n (Going run) q = (n, q)
-    tells-on n Idle q = (n, q)
+    tells-on n (Break send) q = inr (n, q)
+    tells-on n (Continue (Some run)) q = (n, q)
+    tells-on n (Continue None) q = (n, q)
 
     -- one from which a run fits is the first
-    tells-here : (send : Interval) → Fits E t p g f send → (x : Run) → x ≡ Sent send → Tells (g ∷ f) x
+    tells-here : (send : Interval) → Fits E t p g f send → (x : Run) → x ≡ Break send → Tells (g ∷ f) x
     unfolding Tells FirstFit
     tells-here send q x e = rw e (inl q)
 
@@ -83,25 +82,25 @@ module _ (E : ℕ → End) (t p : ℕ) where
     unfit-none h send q = let z : ◌≡◌ {A = ℕ} 0 1 = cc in omega arith
 
     -- a run that began here or before does not reach its end: one that begins here ends no sooner
-    unfit-under : Later E → (run : Interval) → run.start.0 ≤ max g.start.0 t → E run.start.0 ≡ At run.end → (Reaches p run.end.0 (g ∷ f) → ⊥) → Unfit E t p g f
+    unfit-under : Later E → (run : Interval) → run.start.0 ≤ max g.start.0 t → E run.start.0 ≡ Some run.end → (Reaches p run.end.0 (g ∷ f) → ⊥) → Unfit E t p g f
     unfit-under later run le h n send q =
         let order : run.end.0 ≤ send.end.0 = later run.start.0 send.start.0 run.end send.end (omega (arith, q.begins)) h q.ends in
         n (reaches-sooner p run.end.0 send.end.0 (g ∷ f) order q.reaches)
 
   -- the outcome with a run under way: the run, if it reaches its end; otherwise what the outcome without it would say
   abbrev Goes : List BookingSegment → Interval → Run → Type 0
-  Goes f run x = ((Reaches p run.end.0 f) × (x ≡ Sent run)) ⊎ ((Reaches p run.end.0 f → ⊥) × Tells f x)
+  Goes f run x = ((Reaches p run.end.0 f) × (x ≡ Break run)) ⊎ ((Reaches p run.end.0 f → ⊥) × Tells f x)
 
   -- at the date a, past the asked time, a run by the rule is under way
   record Under (a : ℕ) (run : Interval) : Type 0 where
     past : t < a
     begun : run.start.0 ≤ a
-    ends : E run.start.0 ≡ At run.end
+    ends : E run.start.0 ≡ Some run.end
 
   -- what the search from the date a on finds, in either state
   record Known (a : ℕ) (f : List BookingSegment) : Type 0 where
-    idle : Tells f (search_of E t p f Idle)
-    going : (run : Interval) → Under a run → Goes f run (search_of E t p f (Going run))
+    idle : Tells f (search_of E t p f (Continue None))
+    going : (run : Interval) → Under a run → Goes f run (search_of E t p f (Continue (Some run)))
 
   -- no segment is left
   known-end : (a : ℕ) → Known a []
@@ -128,39 +127,39 @@ module _ (E : ℕ → End) (t p : ℕ) where
           (le-or-lt run.end.0 g.end.0)
 
       -- a run that begins in the segment
-      tells-begin : t < g.end.0 → g.level.0 ≤ p → (x : End) → E (max g.start.0 t) ≡ x
+      tells-begin : t < g.end.0 → g.level.0 ≤ p → (x : Option Date) → E (max g.start.0 t) ≡ x
           → Tells (g ∷ f) (search_of E t p f (begin_of g.end.0 (max g.start.0 t) x))
       unfolding begin_of
       tells-begin h k None e = tells-on g f (unfit-none g f e) _ rest.idle
-      tells-begin h k (At d) e =
+      tells-begin h k (Some d) e =
           let run = interval (max g.start.0 t) d.0 in
           ⊎_elim
           (λ w. tells-here g f run (record { late = h; begins = refl; ends = e; reaches = w.0 }) _ w.1)
           (λ w. w.1)
           (goes_over run k (record { past = h; begun = omega arith; ends = e }) (omega arith))
 
-      tells-turn : Tells (g ∷ f) (search_of E t p f (turn_of E t p g Idle))
+      tells-turn : Tells (g ∷ f) (search_of E t p f (turn_of E t p g (Continue None)))
       unfolding free_of broken_of
       tells-turn =
           ⊎_elim
-          (λ (h : g.end.0 ≤ t). rw (turn-skip E t p g Idle h) (tells-on g f (unfit-skip g f h) _ rest.idle))
+          (λ (h : g.end.0 ≤ t). rw (turn-skip E t p g (Continue None) h) (tells-on g f (unfit-skip g f h) _ rest.idle))
           (λ (h : t < g.end.0).
           ⊎_elim
-          (λ (k : g.level.0 ≤ p). rw (turn-free E t p g Idle h k) (tells-begin h k (E (max g.start.0 t)) refl))
-          (λ (k : p < g.level.0). rw (turn-broken E t p g Idle h k) (tells-on g f (unfit-above g f k) _ rest.idle))
+          (λ (k : g.level.0 ≤ p). rw (turn-free E t p g (Continue None) h k) (tells-begin h k (E (max g.start.0 t)) refl))
+          (λ (k : p < g.level.0). rw (turn-broken E t p g (Continue None) h k) (tells-on g f (unfit-above g f k) _ rest.idle))
           (le-or-lt g.level.0 p))
           (le-or-lt g.end.0 t)
 
-      goes-turn : (run : Interval) → Under g.start.0 run → Goes (g ∷ f) run (search_of E t p f (turn_of E t p g (Going run)))
+      goes-turn : (run : Interval) → Under g.start.0 run → Goes (g ∷ f) run (search_of E t p f (turn_of E t p g (Continue (Some run))))
       unfolding broken_of
       goes-turn run u =
           let past : t < g.end.0 = omega (arith, u.past) in
           ⊎_elim
           (λ (k : g.level.0 ≤ p).
-          rw (turn-going E t p g (Going run) past k run refl)
+          rw (turn-going E t p g (Continue (Some run)) past k run refl)
           (goes_over run k (record { past = past; begun = omega (arith, u.begun); ends = u.ends }) (omega (arith, u.begun))))
           (λ (k : p < g.level.0).
-          rw (turn-broken E t p g (Going run) past k)
+          rw (turn-broken E t p g (Continue (Some run)) past k)
           (inr (λ (x : Reaches p run.end.0 (g ∷ f)). omega (arith, reaches-below p run.end.0 g f x), tells-on g f (unfit-above g f k) _ rest.idle)))
           (le-or-lt g.level.0 p)
 
@@ -199,20 +198,20 @@ module _ (E : ℕ → End) (t p : ℕ) where
   none_first (g ∷ f) send n (inr x) = none_first f send n.1 x.1
 
   -- nothing found
-  finds-none : (f : List BookingSegment) (x : Run) → ((send : Interval) → x ≡ Sent send → ⊥) → NoFit E t p f → FindsFirst E t p f x
+  finds-none : (f : List BookingSegment) (x : Run) → ((send : Interval) → x ≡ Break send → ⊥) → NoFit E t p f → FindsFirst E t p f x
   finds-none f x nothing n =
       record { found = λ send. (λ e. absurd (nothing send e), λ q. absurd (none_first f send n q)); none = (λ y. n, λ y. nothing) }
 
   finds : (f : List BookingSegment) (x : Run) → Tells f x → FindsFirst E t p f x
   unfolding Tells
-  finds f (Sent run) q =
+  finds f (Break run) q =
       record {
-        found = λ send. (λ e. let same : run ≡ send = cc in rw same at q, λ w. ap Sent (first_one f run send q w));
+        found = λ send. (λ e. let same : run ≡ send = cc in rw same at q, λ w. ap Break (first_one f run send q w));
         none = (λ y. absurd (y run refl), λ n. absurd (none_first f run n q));
       }
-  finds f (Going run) q = finds-none f (Going run) (λ send e. let z : ◌≡◌ {A = ℕ} 0 1 = cc in omega arith) q
-  finds f Idle q = finds-none f Idle (λ send e. let z : ◌≡◌ {A = ℕ} 0 1 = cc in omega arith) q
+  finds f (Continue (Some run)) q = finds-none f (Continue (Some run)) (λ send e. let z : ◌≡◌ {A = ℕ} 0 1 = cc in omega arith) q
+  finds f (Continue None) q = finds-none f (Continue None) (λ send e. let z : ◌≡◌ {A = ℕ} 0 1 = cc in omega arith) q
 
 -- on a list that covers a window
-pub search-first : (E : ℕ → End) (t p lo hi : ℕ) (f : List BookingSegment) → Later E → cover_ok lo hi f ≡ true → FindsFirst E t p f (search_of E t p f Idle)
-search-first E t p lo hi f later c = finds E t p f (search_of E t p f Idle) (known E t p later f lo hi (cover-of lo hi f c)).idle
+pub search-first : (E : ℕ → Option Date) (t p lo hi : ℕ) (f : List BookingSegment) → Later E → cover_ok lo hi f ≡ true → FindsFirst E t p f (search_of E t p f (Continue None))
+search-first E t p lo hi f later c = finds E t p f (search_of E t p f (Continue None)) (known E t p later f lo hi (cover-of lo hi f c)).idle

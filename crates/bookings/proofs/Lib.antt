@@ -10,3 +10,9 @@ pub mod RunLaws
 pub mod SetList
 pub mod Unique
 pub mod FirstFit
+pub mod Places
+pub mod Moved
+pub mod Touched
+pub mod Laid
+pub mod Setting
+pub mod Covered

@@ -18,7 +18,13 @@ use Rattle.bookings.specs.declared.Set.{Set}
 use Rattle.bookings.specs.Listed.{level_max, cover_ok, no_booking, listed}
 use Rattle.bookings.specs.Cut.{segment, set_of, laid_of, set_bookings}
 use Rattle.bookings.proofs.SetLaws.{set-cover, set-some}
-use Rattle.bookings.proofs.CutLoop.{full, kept}
+
+-- 10 and the list as it came; 0 and a list
+abbrev full : Bookings → Set
+full r = record { number = 10; bookings = r }
+
+abbrev kept : List BookingSegment → ℕ → Set
+kept out k = record { number = 0; bookings = record { segments = out; count = k } }
 
 no-segment : no_booking (segment 0 0 0) ≡ true
 unfolding no_booking both

@@ -40,6 +40,14 @@ set_of s e w (g ∷ f) = parts_of s e w g ++ set_of s e w f
 abbrev pub laid_of : List BookingSegment → List BookingSegment
 laid_of f = padded listed_max (segment 0 0 0) f
 
+-- the record's list of these segments
+abbrev pub list_in : List BookingSegment → Bookings
+list_in f = record { segments = laid_of f; count = length f }
+
+-- the list that an array and a count make
+abbrev pub bookings_in : List BookingSegment → ℕ → Bookings
+bookings_in segments count = record { segments = segments; count = count }
+
 -- refusal 10: the booking would leave more than 64 listed segments
 unfoldable pub set_bookings : Bookings → ℕ → ℕ → ℕ → Set
 set_bookings r s e w =

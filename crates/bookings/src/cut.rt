@@ -1,175 +1,96 @@
 // The setting of a booking (pseg.rs: schedule_tx): each segment leaves the parts before, in and after the send interval.
-ghost use Rattle.std.specs.Prelude.{◌≡◌, ◌≤◌, length, take};
+ghost use Rattle.std.specs.Prelude.{◌≡◌, ◌≤◌, MatchResult};
 ghost use Rattle.units.specs.Limits.{listed_max};
-ghost use Rattle.bookings.specs.Cut.{set_of, laid_of, set_bookings};
-ghost use Rattle.bookings.specs.Granted.{Cuts};
+ghost use Rattle.bookings.specs.Cut.{parts_of, set_bookings};
+ghost use Rattle.bookings.specs.Granted.{part_of, laid_parts, Tidy, Holds, Overflows, set_in};
 
 use crate::{BookingSegment, Bookings, Level, Parts, Set};
-use units::{Date, Interval};
+use units::Interval;
+use units::refusal::Refusal;
 
 // What a booking leaves of one segment.
 pub fn parts(g: BookingSegment, send: Interval, level: Level) -> Parts
-    ensures { Cuts send.start.0 send.end.0 level.0 g result }
+    ensures { laid_parts result ≡ parts_of send.start.0 send.end.0 level.0 g }
 {
-    let s = send.start;
-    let e = send.end;
-    let first = g.start;
-    let last = g.end;
-    let old = g.level;
-    let same = BookingSegment {
-        start: first,
-        end: last,
-        level: old,
-    };
-    if last.0 <= s.0 {
+    if g.end <= send.start || send.end <= g.start {
         return Parts {
-            before: same,
-            middle: same,
-            after: same,
-            befores: 0,
-            afters: 0,
+            before: None,
+            middle: g,
+            after: None,
         };
     }
-    if e.0 <= first.0 {
-        return Parts {
-            before: same,
-            middle: same,
-            after: same,
-            befores: 0,
-            afters: 0,
-        };
-    }
-    let middle = BookingSegment {
-        start: units::later(first, s),
-        end: units::sooner(last, e),
-        level: level,
-    };
     let before = BookingSegment {
-        start: first,
-        end: s,
-        level: old,
+        end: send.start,
+        ..g
     };
     let after = BookingSegment {
-        start: e,
-        end: last,
-        level: old,
+        start: send.end,
+        ..g
     };
-    if first.0 < s.0 {
-        if e.0 < last.0 {
-            return Parts {
-                before: before,
-                middle: middle,
-                after: after,
-                befores: 1,
-                afters: 1,
-            };
-        }
-        return Parts {
-            before: before,
-            middle: middle,
-            after: middle,
-            befores: 1,
-            afters: 0,
-        };
-    }
-    if e.0 < last.0 {
-        return Parts {
-            before: before,
-            middle: middle,
-            after: after,
-            befores: 0,
-            afters: 1,
-        };
-    }
     Parts {
-        before: before,
-        middle: middle,
-        after: middle,
-        befores: 0,
-        afters: 0,
+        before: (g.start < send.start).then_some(before),
+        middle: BookingSegment {
+            start: units::later(g.start, send.start),
+            end: units::sooner(g.end, send.end),
+            level,
+        },
+        after: (send.end < g.end).then_some(after),
     }
-}
-
-// The list with the booking, in its array.
-pub fn laid(
-    old: [BookingSegment; Bookings::COUNT_MAX],
-    n: usize,
-    send: Interval,
-    level: Level,
-) -> [BookingSegment; Bookings::COUNT_MAX]
-    requires fact_1 { n ≤ listed_max }
-    requires fact_2 { length (set_of send.start.0 send.end.0 level.0 (take n old)) ≤ listed_max }
-    ensures { result ≡ laid_of (set_of send.start.0 send.end.0 level.0 (take n old)) }
-{
-    let blank = BookingSegment {
-        start: Date(0),
-        end: Date(0),
-        level: Level(0),
-    };
-    let mut out = [blank; Bookings::COUNT_MAX];
-    let mut i: usize = 0;
-    let mut m: usize = 0;
-    while i < n {
-        let g = old[i];
-        let c = parts(g, send, level);
-        let before = c.before;
-        let middle = c.middle;
-        let after = c.after;
-        let j = m + c.befores;
-        let k = j + c.afters;
-        out[m] = before;
-        out[j] = middle;
-        out[k] = after;
-        m = k + 1;
-        i += 1;
-    }
-    out
-}
-
-// How many segments a booking leaves.
-pub fn grown(
-    old: [BookingSegment; Bookings::COUNT_MAX],
-    n: usize,
-    send: Interval,
-    level: Level,
-) -> usize
-    requires { n ≤ listed_max }
-    ensures { result ≡ length (set_of send.start.0 send.end.0 level.0 (take n old)) }
-{
-    let mut i: usize = 0;
-    let mut m: usize = 0;
-    while i < n {
-        let g = old[i];
-        let c = parts(g, send, level);
-        let j = m + c.befores;
-        let k = j + c.afters;
-        m = k + 1;
-        i += 1;
-    }
-    m
 }
 
 impl Bookings {
     // The list with [send start, send end) set to the level; 10 where it would be longer than 64.
-    pub fn set(self, send: Interval, level: Level) -> Set
-        requires { self.count ≤ listed_max }
-        ensures { result ≡ set_bookings self send.start.0 send.end.0 level.0 }
+    pub fn set(self, send: Interval, level: Level) -> Result<Bookings, Refusal>
+        requires few { self.count ≤ listed_max }
+        ensures { set_in self result ≡ set_bookings self send.start.0 send.end.0 level.0 }
     {
-        let old = self.segments;
-        let n = self.count;
-        let k = grown(old, n, send, level);
-        if Bookings::COUNT_MAX < k {
-            return Set {
-                number: units::refusal::FULL,
-                bookings: self,
-            };
+        let mut list = Bookings::default();
+        for g in self.listed() {
+            list.lay(parts(*g, send, level))?;
         }
-        let list = laid(old, n, send, level);
-        Set {
-            number: 0,
-            bookings: Bookings {
-                segments: list,
-                count: k,
+        Ok(list)
+    }
+
+    // Lists what a booking leaves of one more segment; 10 where there is no room.
+    fn lay(&mut self, parts: Parts) -> Result<(), Refusal>
+        requires tidy { Tidy self.old }
+        ensures { MatchResult result (λ _. Holds self.old (laid_parts parts) self.new) (λ e. Overflows self.old (laid_parts parts) e) }
+    {
+        self.push(parts.before)?;
+        self.push(Some(parts.middle))?;
+        self.push(parts.after)
+    }
+
+    // Lists one more segment, if there is one; 10 where the list is full.
+    fn push(&mut self, part: Option<BookingSegment>) -> Result<(), Refusal>
+        requires tidy { Tidy self.old }
+        ensures { MatchResult result (λ _. Holds self.old (part_of part) self.new) (λ e. Overflows self.old (part_of part) e) }
+    {
+        let Some(g) = part else {
+            return Ok(());
+        };
+        if Bookings::COUNT_MAX <= self.count {
+            return Err(Refusal::Full);
+        }
+        self.segments[self.count] = g;
+        self.count += 1;
+        Ok(())
+    }
+}
+
+impl Set {
+    // The answer that a setting gives: 0 and the list with the booking, or the refusal's number and the list as it came.
+    pub fn told(came: Bookings, done: Result<Bookings, Refusal>) -> Set
+        ensures { result ≡ set_in came done }
+    {
+        match done {
+            Ok(bookings) => Set {
+                number: 0,
+                bookings,
+            },
+            Err(refusal) => Set {
+                number: refusal.number(),
+                bookings: came,
             },
         }
     }

@@ -45,11 +45,11 @@ use Rattle.legacy.specs.DryRun.{answer_at, dry_run_of as dry_run_queue}
 use Rattle.legacy.specs.Queueing.{add_to, enqueue_at}
 use Rattle.legacy.specs.Book.{book_of as book_queue}
 use Rattle.legacy.specs.List.{list_of as list_queue}
-use Rattle.held.specs.State.{kept_free, kept_priority, kept_polynomial, kept_queue}
-use Rattle.held.specs.Calls.{dry_run_as, book_as}
+use Rattle.held.specs.State.{kept}
+use Rattle.held.specs.Calls.{dry_run_held, book_held}
 use Rattle.cases.specs.Table.{table}
-use Rattle.cases.specs.Claim.{opening_of, list_as, answer_of, next_of, answers_of, said_of, Holds}
+use Rattle.cases.specs.Claim.{opening_of, list_of, answer_of, next_of, answers_of, said_of, Holds}
 
 pub cases : Holds table
-unfolding room_of both all_of one_or_two strict_ok forbids window_ok load_ok bundle_ok same_dates offers padded rate_at cap_of tick_of close_of end_of belongs from_date delays_of spans covers delays_ok no_volume no_delay total_of volume_ok choices_ok open_contact contact_ok segment_ok list_ok further_of offer_of left_of cut_of list_cut free_ok free_record_ok open_free dry_run_free book_free list_free follows cover_ok no_booking reach_of begin_of broken_of free_of turn_of search_of parts_of set_of set_bookings bookings_ok priority_record_ok open_priority dry_run_priority book_priority list_priority integral12 step_of horner_of capacity_to term_of mag_of range_ok coefficients_ok poly_ok wanted_of area_from halve_of find_end polynomial_choices_ok queue_choices_ok delay_ok polynomial_delays_ok delays_by open_polynomial polynomial_record_ok offer_polynomial dry_run_polynomial book_polynomial list_polynomial rate_ok budgets_ok open_queue queue_record_ok answer_at dry_run_queue add_to enqueue_at book_queue list_queue kept_free kept_priority kept_polynomial kept_queue dry_run_as book_as opening_of list_as answer_of next_of answers_of said_of Holds
+unfolding room_of both all_of one_or_two strict_ok forbids window_ok load_ok bundle_ok same_dates offers padded rate_at cap_of tick_of close_of end_of belongs from_date delays_of spans covers delays_ok no_volume no_delay total_of volume_ok choices_ok open_contact contact_ok segment_ok list_ok further_of offer_of left_of cut_of list_cut free_ok free_record_ok open_free dry_run_free book_free list_free follows cover_ok no_booking reach_of begin_of broken_of free_of turn_of search_of parts_of set_of set_bookings bookings_ok priority_record_ok open_priority dry_run_priority book_priority list_priority integral12 step_of horner_of capacity_to term_of mag_of range_ok coefficients_ok poly_ok wanted_of area_from halve_of find_end polynomial_choices_ok queue_choices_ok delay_ok polynomial_delays_ok delays_by open_polynomial polynomial_record_ok offer_polynomial dry_run_polynomial book_polynomial list_polynomial rate_ok budgets_ok open_queue queue_record_ok answer_at dry_run_queue add_to enqueue_at book_queue list_queue kept dry_run_held book_held opening_of list_of answer_of next_of answers_of said_of Holds
 cases = (refl, refl, (refl, refl, (refl, refl, (refl, refl, (refl, refl, (refl, refl, (refl, refl, (refl, refl, (refl, refl, (refl, refl, (refl, refl, (refl, refl, (refl, refl, (refl, refl, (refl, refl, (refl, refl, (refl, refl, (refl, refl, (refl, refl, (refl, refl, (refl, refl, (refl, refl, (refl, refl, (refl, refl, (refl, refl, (refl, refl, (refl, refl, tt)))))))))))))))))))))))))))

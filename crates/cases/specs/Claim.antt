@@ -28,11 +28,10 @@ use Rattle.legacy.specs.declared.Opened.{Opened as QueueOpened}
 use Rattle.legacy.specs.declared.Listing.{Listing as QueueListing}
 use Rattle.legacy.specs.Open.{classes_max, open_of as open_queue}
 use Rattle.legacy.specs.List.{list_of as list_queue}
-use Rattle.held.specs.declared.Kind.{Kind}
-use Rattle.held.specs.declared.Kind.TheVariants.{Nothing, Free, Priority, Polynomial, Queue}
 use Rattle.held.specs.declared.Held.{Held}
+use Rattle.held.specs.declared.Held.TheVariants.{Nothing, Free, Priority, Polynomial, Queue}
 use Rattle.held.specs.declared.Done.{Done}
-use Rattle.held.specs.State.{nothing, kept_free, kept_priority, kept_polynomial, kept_queue}
+use Rattle.held.specs.State.{nothing, kept}
 use Rattle.held.specs.Calls.{dry_run_held, book_held}
 use Rattle.cases.specs.Words.{Opening, Call, Row, Answer, Step, Case}
 use Rattle.cases.specs.Words.{free, priority, polynomial, queue, dry_run, book, list, offer, done, rows, queues, rate, ◌⇒◌}
@@ -47,16 +46,16 @@ delay_array l = padded segments_max zero_delay l
 -- an opening's number, and what is held after it
 unfoldable pub opening_of : Opening → Done
 opening_of (free h w r d) =
-    let o : FreeOpened = open_free h w (rate_array r) (length r) (delay_array d) (length d) in kept_free nothing o.number o.manager
+    let o : FreeOpened = open_free h w (rate_array r) (length r) (delay_array d) (length d) in kept nothing o.number (Free o.manager)
 opening_of (priority h w r d) =
     let o : PriorityOpened = open_priority h w (rate_array r) (length r) (delay_array d) (length d) in
-    kept_priority nothing o.number o.manager
+    kept nothing o.number (Priority o.manager)
 opening_of (polynomial h w c z d) =
     let o : PolynomialOpened = open_polynomial h w (record { coefficients = c; offset = record { 0 = z } }) (delay_array d) (length d) in
-    kept_polynomial nothing o.number o.manager
+    kept nothing o.number (Polynomial o.manager)
 opening_of (queue h w r d n f b) =
     let o : QueueOpened = open_queue h w (record { 0 = r }) (record { 0 = d }) n f (padded classes_max (record { 0 = 0 }) b) in
-    kept_queue nothing o.number o.manager
+    kept nothing o.number (Queue o.manager)
 
 abbrev pub volume_row : VolumeSegment → Row
 volume_row g = record { start = g.start.0; end = g.end.0; value = pos g.volume.0 }
@@ -67,13 +66,13 @@ booking_row g = record { start = g.start.0; end = g.end.0; value = value_of g.le
 abbrev pub size_of : Volume → ℕ
 size_of q = q.0
 
--- the list of the record of the kind
-unfoldable pub list_as : Kind → Held → Answer
-list_as Nothing h = done 1
-list_as Free h = let o : FreeListing = list_free h.free in rows o.number (map volume_row (listed_free o.list))
-list_as Priority h = let o : PriorityListing = list_priority h.priority in rows o.number (map booking_row (listed_bookings o.list))
-list_as Polynomial h = let o : PolynomialListing = list_polynomial h.polynomial in rows o.number (map volume_row (listed_free o.list))
-list_as Queue h = let o : QueueListing = list_queue h.queue in queues o.number (map size_of (take o.classes o.queues))
+-- the list of the record that is held
+unfoldable pub list_of : Held → Answer
+list_of Nothing = done 1
+list_of (Free r) = let o : FreeListing = list_free r in rows o.number (map volume_row (listed_free o.list))
+list_of (Priority r) = let o : PriorityListing = list_priority r in rows o.number (map booking_row (listed_bookings o.list))
+list_of (Polynomial r) = let o : PolynomialListing = list_polynomial r in rows o.number (map volume_row (listed_free o.list))
+list_of (Queue r) = let o : QueueListing = list_queue r in queues o.number (map size_of (take o.classes o.queues))
 
 abbrev pub date : ℕ → Date
 date t = record { 0 = t }
@@ -85,7 +84,7 @@ bundle v p = record { size = record { 0 = v }; priority = record { 0 = p } }
 unfoldable pub answer_of : Held → Call → Answer
 answer_of h (dry_run t v p) = offer (dry_run_held h (date t) (bundle v p))
 answer_of h (book t v p d) = done (book_held h (date t) (bundle v p) d).number
-answer_of h list = list_as h.kind h
+answer_of h list = list_of h
 
 -- what is held after it
 unfoldable pub next_of : Held → Call → Held

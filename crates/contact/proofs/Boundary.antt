@@ -14,7 +14,7 @@ use Rattle.units.proofs.Numbers.{le-or-lt, eq-or-ne}
 use Rattle.units.proofs.Loop.{at-whole}
 use Rattle.units.specs.declared.Interval.{Interval}
 use Rattle.segmentation.specs.declared.DelaySegment.{DelaySegment}
-use Rattle.segmentation.specs.declared.Delays.TheVariants.{Of}
+use Rattle.std.specs.Prelude.{Some}
 use Rattle.segmentation.specs.Delay.{belongs, from_date, heads, delays_of, answer_with}
 use Rattle.segmentation.proofs.DelayLaws.{Reaches, belongs-second, belongs-inside, belongs-last, lies-last, lies-before}
 use Rattle.segmentation.proofs.DelayLoop.{from-here, from_on}
@@ -154,12 +154,12 @@ module _ (b : ℕ) (l : List DelaySegment) (a : ℕ) (c : Covers a b l) where
   lies-one t i j p q = omega (arith, lies-order t t i j (omega arith) p q, lies-order t t j i (omega arith) q p)
 
   -- and the delays by rule 2 are those of the two dates' segments
-  pub lies-delays : (s e i j : ℕ) → Lies b l s i → Lies b l e j → delays_of 2 l s e ≡ Of (get_or l i zero_delay).delay (get_or l j zero_delay).delay
+  pub lies-delays : (s e i j : ℕ) → Lies b l s i → Lies b l e j → delays_of 2 l s e ≡ Some (record { first = (get_or l i zero_delay).delay; last = (get_or l j zero_delay).delay })
   unfolding delays_of
   lies-delays s e i j p q =
       rw (lies-from b s l a i c p, lies-from b e l a j c q) (heads-at l i j p.place q.place)
     where
-      heads-at : (l : List DelaySegment) (i j : ℕ) → i < length l → j < length l → heads (drop i l) (drop j l) ≡ Of (get_or l i zero_delay).delay (get_or l j zero_delay).delay
+      heads-at : (l : List DelaySegment) (i j : ℕ) → i < length l → j < length l → heads (drop i l) (drop j l) ≡ Some (record { first = (get_or l i zero_delay).delay; last = (get_or l j zero_delay).delay })
       heads-at l i j h k = rw (at-whole l i zero_delay h, at-whole l j zero_delay k)
 
 -- a date past the segment is past it for a later date too
@@ -205,7 +205,7 @@ pub received : (rule : ℕ) → rule ≡ 2 → (w : Interval) (l : List DelaySeg
 received rule two w l c some send low h high =
     let s = lies-some w.end.0 send.start.0 l w.start.0 c some low (omega arith) in
     let e = lies-some w.end.0 send.end.0 l w.start.0 c some (omega arith) high in
-    let delays : delays_of rule l send.start.0 send.end.0 ≡ Of (get_or l s.at zero_delay).delay (get_or l e.at zero_delay).delay =
+    let delays : delays_of rule l send.start.0 send.end.0 ≡ Some (record { first = (get_or l s.at zero_delay).delay; last = (get_or l e.at zero_delay).delay }) =
     ap (λ (n : ℕ). delays_of n l send.start.0 send.end.0) two ∙ lies-delays w.end.0 l w.start.0 c send.start.0 send.end.0 s.at e.at s.is e.is in
     rw delays
     (record {

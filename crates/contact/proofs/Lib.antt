@@ -1,3 +1,5 @@
+pub mod Told
+pub mod Zero
 pub mod Spans
 pub mod Volumes
 pub mod Rates
@@ -9,8 +11,8 @@ pub mod Total
 pub mod Fresh
 pub mod Twin
 pub mod Lasting
-pub mod Unique
 pub mod Boundary
 pub mod Lookup
 pub mod Offers
 pub mod Order
+pub mod Unique

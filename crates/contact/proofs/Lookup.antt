@@ -12,6 +12,7 @@ use Rattle.units.specs.Logic.{all_of}
 use Rattle.units.proofs.Logic.{all_head, all_tail}
 use Rattle.segmentation.specs.declared.DelaySegment.{DelaySegment}
 use Rattle.segmentation.specs.declared.Delays.{Delays}
+use Rattle.std.specs.Prelude.{Option}
 use Rattle.segmentation.specs.Delay.{delays_of, answer_of, answer_with}
 use Rattle.segmentation.specs.Granted.{AllShort}
 use Rattle.segmentation.proofs.DelayLaws.{Finds, delays-find}
@@ -38,7 +39,7 @@ pub record Answers (send : Interval) (o : Offer) : Type 0 where
   pub number : o.number ≡ 0
   pub sends : o.dates.send ≡ send
 
-pub finds-answer : (find : ℕ → ℕ → Delays) (send : Interval) → Finds (find send.start.0 send.end.0) → Answers send (answer_with find send)
+pub finds-answer : (find : ℕ → ℕ → Option Delays) (send : Interval) → Finds (find send.start.0 send.end.0) → Answers send (answer_with find send)
 finds-answer find send f =
     let e : answer_with find send ≡ offered send.start.0 send.end.0 f.first.0 f.last.0 = ap (answer_of send.start.0 send.end.0) f.is in
     record { number = ap (λ (o : Offer). o.number) e; sends = ap (λ (o : Offer). o.dates.send) e }

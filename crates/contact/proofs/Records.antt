@@ -1,6 +1,7 @@
 -- The record's test is the opening's with the contact's own figures: what the code tests instead is the same.
-use Prim.Native.Nat.{ℕ, ◌≤◌}
-use mathlib.Core.Bool.{Bool, true}
+use Prim.Native.Nat.{ℕ, ◌<◌, ◌≤◌}
+use mathlib.Core.Bool.{Bool, true, false}
+use mathlib.Core.Logic.{◌⊎◌}
 use mathlib.Core.Path.{◌≡◌, sym, ap, ◌∙◌}
 use mathlib.Core.List.{List, map}
 use lib.ListN.{take, drop}
@@ -19,6 +20,7 @@ use Rattle.contact.specs.Segments.{rate_span, volume_span, covers, delays_ok, ra
 use Rattle.contact.specs.Open.{volume_ok}
 use Rattle.contact.specs.Record.{contact_ok}
 use Rattle.contact.specs.Granted.{volumes_ok, counted_volumes}
+use Rattle.contact.proofs.Told.{not-counted}
 use Rattle.contact.proofs.Spans.{covers-some, covers-most, covers-spans, spans-map}
 use Rattle.contact.proofs.Refusals.{Passed, passed, done}
 
@@ -34,6 +36,15 @@ module _ (w : Interval) (n : ℕ) (l : List VolumeSegment) where
   rates-volumes c e v =
       let k : covers volume_span w n l ≡ true = sym rates-span ∙ c in
       counted_is segments_max n _ (covers-some volume_span w n l k) (covers-most volume_span w n l k) ∙ both_yes _ _ (covers-spans volume_span w n l k) (both_yes _ _ e (rw take-map at v))
+
+  -- the count is not 1 to 16, or it is
+  pub volumes-no : (n < 1) ⊎ (segments_max < n) → counted_volumes w n l ≡ false
+  unfolding counted_volumes
+  volumes-no h = not-counted n _ h
+
+  pub volumes-are : 1 ≤ n → n ≤ segments_max → counted_volumes w n l ≡ volumes_ok w (take n l)
+  unfolding counted_volumes
+  volumes-are h k = counted_is segments_max n _ h k
 
   module _ (e : counted_volumes w n l ≡ true) where
     pub volumes-hold : volumes_ok w (take n l) ≡ true
@@ -65,10 +76,8 @@ abbrev pub tests_of : Contact → Bool
 tests_of c =
     both (choices_ok c.choices)
     (both (window_ok c.window)
-    (both (counted_volumes c.window c.rate_count c.rates)
-    (both (delays_ok c.window c.delay_count c.delays)
-    (both (all_of no_volume (drop c.rate_count c.rates))
-    (all_of no_delay (drop c.delay_count c.delays))))))
+    (both (both (counted_volumes c.window c.rate_count c.rates) (all_of no_volume (drop c.rate_count c.rates)))
+    (both (delays_ok c.window c.delay_count c.delays) (all_of no_delay (drop c.delay_count c.delays)))))
 
 module _ (c : Contact) where
   -- an opening with the contact's own figures passes
@@ -80,17 +89,20 @@ module _ (c : Contact) where
   ok_tests e =
       let p : Own = passed _ _ _ _ _ _ (eqb-true _ _ (both-fst _ _ e)) in
       let rest = both-snd _ _ e in
-      both_yes _ _ p.choice (both_yes _ _ p.window (both_yes _ _ (rates-volumes _ _ _ p.rate (both-fst _ _ rest) p.volume) (both_yes _ _ p.delay (both-snd _ _ rest))))
+      let unused = both-snd _ _ rest in
+      both_yes _ _ p.choice (both_yes _ _ p.window
+      (both_yes _ _ (both_yes _ _ (rates-volumes _ _ _ p.rate (both-fst _ _ rest) p.volume) (both-fst _ _ unused)) (both_yes _ _ p.delay (both-snd _ _ unused))))
 
   tests-ok : tests_of c ≡ true → contact_ok c ≡ true
   unfolding contact_ok
   tests-ok e =
       let e0 = both-snd _ _ e in
       let e1 = both-snd _ _ e0 in
-      let e2 = both-snd _ _ e1 in
-      let v : counted_volumes c.window c.rate_count c.rates ≡ true = both-fst _ _ e1 in
-      let p : Own = record { choice = both-fst _ _ e; window = both-fst _ _ e0; rate = volumes-cover _ _ _ v; volume = volumes-within _ _ _ v; delay = both-fst _ _ e2 } in
-      both_yes _ _ (eq-eqb _ _ (ap (λ (r : Opened). r.number) (done _ _ _ _ _ _ p))) (both_yes _ _ (volumes-whole _ _ _ v) (both-snd _ _ e2))
+      let r = both-fst _ _ e1 in
+      let d = both-snd _ _ e1 in
+      let v : counted_volumes c.window c.rate_count c.rates ≡ true = both-fst _ _ r in
+      let p : Own = record { choice = both-fst _ _ e; window = both-fst _ _ e0; rate = volumes-cover _ _ _ v; volume = volumes-within _ _ _ v; delay = both-fst _ _ d } in
+      both_yes _ _ (eq-eqb _ _ (ap (λ (r : Opened). r.number) (done _ _ _ _ _ _ p))) (both_yes _ _ (volumes-whole _ _ _ v) (both_yes _ _ (both-snd _ _ r) (both-snd _ _ d)))
 
-  pub contact-is : contact_ok c ≡ tests_of c
-  contact-is = same_test _ _ ok_tests tests-ok
+  pub contact_is : contact_ok c ≡ tests_of c
+  contact_is = same_test _ _ ok_tests tests-ok

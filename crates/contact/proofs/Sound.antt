@@ -21,7 +21,7 @@ use Rattle.contact.specs.Granted.{counted_volumes}
 use Rattle.contact.proofs.Spans.{Inside, spans-end, spans-inside, spans-rest}
 use Rattle.contact.proofs.Volumes.{Kept, Takes, kept-first, kept-rest, volumes-kept}
 use Rattle.contact.proofs.Delays.{delays-some, delays-most, delays-span, delays-brief}
-use Rattle.contact.proofs.Records.{contact-is, volumes-some, volumes-most, volumes-hold}
+use Rattle.contact.proofs.Records.{contact_is, volumes-some, volumes-most, volumes-hold}
 
 pub record Sound (c : Contact) : Type 0 where
   pub chosen : choices_ok c.choices ≡ true
@@ -56,11 +56,11 @@ kept_run lo b short date (s ∷ l) a room h m k =
 
 pub sound : (c : Contact) → contact_ok c ≡ true → Sound c
 sound c e =
-    let tests = sym (contact-is c) ∙ e in
+    let tests = sym (contact_is c) ∙ e in
     let e0 = both-snd _ _ tests in
     let e1 = both-snd _ _ e0 in
     let w : Window c.window = window _ (both-fst _ _ e0) in
-    let v : counted_volumes c.window c.rate_count c.rates ≡ true = both-fst _ _ e1 in
+    let v : counted_volumes c.window c.rate_count c.rates ≡ true = both-fst _ _ (both-fst _ _ e1) in
     let d : delays_ok c.window c.delay_count c.delays ≡ true = both-fst _ _ (both-snd _ _ e1) in
     let k : Kept c.window.end.0 c.window.start.0 volume_max (take c.rate_count c.rates) = volumes-kept _ _ (volumes-hold _ _ _ v) in
     record {

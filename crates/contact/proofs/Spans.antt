@@ -1,18 +1,22 @@
--- Laws of `spans`, for any segments: turn by turn, what it tells of each segment, and beside a test of each.
-use Prim.Native.Nat.{ℕ, ◌<◌, ◌≤◌}
+-- Laws of `spans`, for any segments: turn by turn, and what it tells of each segment.
+use Prim.Native.Nat.{ℕ, ◌+◌, ◌<◌, ◌≤◌}
 use mathlib.Core.Bool.{Bool, true, false}
-use mathlib.Core.Path.{◌≡◌, refl, sym, ◌∙◌}
+use mathlib.Core.Path.{◌≡◌, refl, sym, ap, ◌∙◌}
 use mathlib.Core.List.{List, [], ◌∷◌, map}
 use native.Mathlib.Omega.{arith}
-use lib.Dec.{eqb}
-use lib.ListN.{take}
-use borrow.Author.Tests.{eqb-true, ltb-true, eq-eqb, ne_eqb, lt-ltb, le-ltb}
+use mathlib.Core.Logic.{◌⊎◌}
+use lib.Dec.{eqb, ltb}
+use lib.ListN.{length, take, drop, get_or, drop_of_length-le}
+use borrow.Author.Tests.{eqb-true, ltb-true, eq-eqb, lt-ltb}
 use Rattle.units.specs.Limits.{segments_max}
 use Rattle.units.specs.declared.Interval.{Interval}
-use Rattle.units.specs.Logic.{both, all_of}
-use Rattle.units.proofs.Logic.{both_go, both-stop, both-fst, both-snd, both-not, both-only, all_go, all-stop, all_none}
-use Rattle.units.proofs.Counted.{counted-some, counted-most, counted-holds}
+use Rattle.units.specs.Logic.{both}
+use Rattle.units.proofs.Logic.{both_go, both-stop, both-fst, both-snd}
+use Rattle.units.proofs.Choice.{both-assoc}
+use Rattle.units.proofs.Counted.{counted_is, counted-some, counted-most, counted-holds}
+use Rattle.units.proofs.Loop.{item_here}
 use Rattle.contact.specs.Segments.{spans, covers}
+use Rattle.contact.proofs.Told.{not-counted}
 
 -- the segment is not empty, and inside [a, b)
 pub record Inside (a b : ℕ) (w : Interval) : Type 0 where
@@ -25,15 +29,30 @@ module _ {A : Type 0} (span : A → Interval) (b : ℕ) where
   unfolding spans
   spans-end a = refl
 
+  -- the segment begins at the date and is not empty, and the others follow it
+  abbrev pub follows : A → ℕ → Bool
+  follows s a = both (eqb (span s).start.0 a) (ltb (span s).start.0 (span s).end.0)
+
+  spans-more : (s : A) (l : List A) (a : ℕ) → spans span a b (s ∷ l) ≡ both (follows s a) (spans span (span s).end.0 b l)
+  unfolding spans
+  spans-more s l a = sym (both-assoc _ _ _)
+
+  -- a `for` over the segments: from the date reached on, those left answer as all
+  module _ (l : List A) (first at i : ℕ) (q : spans span first b l ≡ spans span at b (drop i l)) where
+    pub left-end : length l ≤ i → spans span first b l ≡ eqb at b
+    left-end h = q ∙ ap (spans span at b) (drop_of_length-le l h) ∙ spans-end at
+
+    module _ (s : A) (lt : i < length l) (e : s ≡ get_or l i s) where
+      here : spans span first b l ≡ both (follows s at) (spans span (span s).end.0 b (drop (i + 1) l))
+      here = q ∙ ap (spans span at b) (item_here l i s lt e) ∙ spans-more s _ at
+
+      pub left-stop : follows s at ≡ false → spans span first b l ≡ false
+      left-stop h = here ∙ both-stop _ _ h
+
+      pub left-on : follows s at ≡ true → spans span first b l ≡ spans span (span s).end.0 b (drop (i + 1) l)
+      left-on h = here ∙ both_go _ _ h
+
   module _ (s : A) (l : List A) (a : ℕ) where
-    pub spans-gap : ((span s).start.0 ≡ a → ⊥) → spans span a b (s ∷ l) ≡ false
-    unfolding spans
-    spans-gap h = both-stop _ _ (ne_eqb _ _ h)
-
-    pub spans-empty : (span s).start.0 ≡ a → (span s).end.0 ≤ (span s).start.0 → spans span a b (s ∷ l) ≡ false
-    unfolding spans
-    spans-empty h k = both_go _ _ (eq-eqb _ _ h) ∙ both-stop _ _ (le-ltb _ _ k)
-
     pub spans-go : (span s).start.0 ≡ a → (span s).start.0 < (span s).end.0 → spans span a b (s ∷ l) ≡ spans span (span s).end.0 b l
     unfolding spans
     spans-go h k = both_go _ _ (eq-eqb _ _ h) ∙ both_go _ _ (lt-ltb _ _ k)
@@ -80,30 +99,19 @@ module _ {A : Type 0} (span : A → Interval) (w : Interval) (n : ℕ) (l : List
   unfolding covers
   covers-spans = counted-holds segments_max n _ e
 
+-- the count is not 1 to 16, or it is
+module _ {A : Type 0} (span : A → Interval) (w : Interval) (n : ℕ) (l : List A) where
+  pub covers-no : (n < 1) ⊎ (segments_max < n) → covers span w n l ≡ false
+  unfolding covers
+  covers-no h = not-counted n _ h
+
+  pub covers-is : 1 ≤ n → n ≤ segments_max → covers span w n l ≡ spans span w.start.0 w.end.0 (take n l)
+  unfolding covers
+  covers-is h k = counted_is segments_max n _ h k
+
 -- segments with the same spans
 pub spans-map : {A B : Type 0} (f : A → B) (span : B → Interval) (a b : ℕ) (l : List A)
     → spans span a b (map f l) ≡ spans (λ (x : A). span (f x)) a b l
 unfolding spans
 spans-map f span a b [] = refl
 spans-map f span a b (s ∷ l) = rw (spans-map f span (span (f s)).end.0 b l)
-
--- beside a test of each segment
-module _ {A : Type 0} (span : A → Interval) (ok : A → Bool) (b : ℕ) where
-  abbrev pub spans_all : ℕ → List A → Bool
-  spans_all a l = both (spans span a b l) (all_of ok l)
-
-  pub pair_end : (a : ℕ) → spans_all a [] ≡ eqb a b
-  pair_end a = both-only _ _ (all_none ok) ∙ spans-end span b a
-
-  module _ (s : A) (l : List A) (a : ℕ) where
-    pub pair-gap : ((span s).start.0 ≡ a → ⊥) → spans_all a (s ∷ l) ≡ false
-    pair-gap h = both-stop _ _ (spans-gap span b s l a h)
-
-    pub pair-empty : (span s).start.0 ≡ a → (span s).end.0 ≤ (span s).start.0 → spans_all a (s ∷ l) ≡ false
-    pair-empty h k = both-stop _ _ (spans-empty span b s l a h k)
-
-    pub pair-bad : ok s ≡ false → spans_all a (s ∷ l) ≡ false
-    pair-bad e = both-not _ _ (all-stop ok s l e)
-
-    pub pair-go : (span s).start.0 ≡ a → (span s).start.0 < (span s).end.0 → ok s ≡ true → spans_all a (s ∷ l) ≡ spans_all (span s).end.0 l
-    pair-go h k e = rw (spans-go span b s l a h k, all_go ok s l e)

@@ -1,14 +1,17 @@
 -- What inner functions take for granted or compute on the way. No promise of a public call rests on it.
-use Rattle.std.specs.Prelude.{ℕ, ◌+◌, ◌-◌, ◌*◌, ◌%◌, ◌<◌, ◌≤◌, Bool, List, [], ◌∷◌, leb, ltb, eqb, take, map}
+use Rattle.std.specs.Prelude.{ℕ, ◌+◌, ◌-◌, ◌*◌, ◌%◌, ◌<◌, ◌≤◌, Bool, List, [], ◌∷◌, leb, ltb, eqb, take, map, Option, Some, None, Result, Ok, Err}
 use Rattle.units.specs.Limits.{length_max, volume_max, segments_max}
 use Rattle.units.specs.declared.Interval.{Interval}
+use Rattle.units.specs.declared.Volume.{Volume}
+use Rattle.units.specs.declared.refusal.Refusal.{Refusal}
+use Rattle.units.specs.Refusal.{number_of}
 use Rattle.units.specs.Logic.{both, pick, all_of}
 use Rattle.segmentation.specs.declared.RateSegment.{RateSegment}
 use Rattle.segmentation.specs.declared.VolumeSegment.{VolumeSegment}
 use Rattle.contact.specs.Segments.{volume_span, spans, rate_segment, whole_of}
-use Rattle.contact.specs.Open.{rate_ok, total_of, volume_ok}
-use Rattle.contact.specs.declared.opening.Total.{Total}
-use Rattle.contact.specs.declared.opening.Total.TheVariants.{Of, Over}
+use Rattle.contact.specs.Open.{rate_ok, total_of, volume_ok, refused_contact}
+use Rattle.contact.specs.declared.Contact.{Contact}
+use Rattle.contact.specs.declared.Opened.{Opened}
 
 -- the length is not negative and within its limit
 pub record Spanning (s : RateSegment) : Type 0 where
@@ -46,5 +49,10 @@ unfoldable pub counted_volumes : Interval → ℕ → List VolumeSegment → Boo
 counted_volumes w n l = both (leb 1 n) (both (leb n segments_max) (volumes_ok w (take n l)))
 
 -- the total, where the rates are inside their limits (`total_of`)
-abbrev pub total_within : List RateSegment → Total
-total_within l = pick (volume_ok l) (Of (record { 0 = total_of l })) Over
+abbrev pub total_within : List RateSegment → Option Volume
+total_within l = pick (volume_ok l) (Some (record { 0 = total_of l })) None
+
+-- an opening's answer, done or refused (`Contact::opened`)
+abbrev pub opened_by : Result (Contact × Volume) Refusal → Opened
+opened_by (Ok x) = record { number = 0; total = x.1; contact = x.0 }
+opened_by (Err r) = refused_contact (number_of r)

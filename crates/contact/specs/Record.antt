@@ -1,11 +1,11 @@
 -- 01, "Records": unused places are zero, and all that the opening tests holds; volume segments hold rate times length.
-use Rattle.std.specs.Prelude.{ℕ, Bool, ◌≡◌, ◌⊎◌, eqb, take, drop, List, map}
+use Rattle.std.specs.Prelude.{ℕ, Bool, ◌≡◌, ◌⊎◌, eqb, take, drop, List, map, Option}
 use Rattle.units.specs.declared.Interval.{Interval}
 use Rattle.units.specs.declared.Offer.{Offer}
 use Rattle.units.specs.Logic.{both, all_of}
 use Rattle.segmentation.specs.declared.VolumeSegment.{VolumeSegment}
 use Rattle.segmentation.specs.declared.DelaySegment.{DelaySegment}
-use Rattle.segmentation.specs.declared.End.{End}
+use Rattle.units.specs.declared.Date.{Date}
 use Rattle.segmentation.specs.declared.Delays.{Delays}
 use Rattle.segmentation.specs.Delay.{delays_of, answer_with}
 use Rattle.segmentation.specs.End.{end_of}
@@ -29,7 +29,7 @@ total_in c = total_of (map rate_segment (rates_of c))
 abbrev pub edition_of : Contact → ℕ
 edition_of c = c.choices.edition.0
 
-abbrev pub end_rule : Contact → ℕ → ℕ → ℕ → End
+abbrev pub end_rule : Contact → ℕ → ℕ → ℕ → Option Date
 end_rule c = end_of (edition_of c) (rates_of c)
 
 -- its strict flag, and the contact with another
@@ -52,7 +52,7 @@ abbrev pub Lasts : Contact → Type 0
 Lasts c = (strict_of c ≡ 1) ⊎ (edition_of c ≡ 2)
 
 -- the delays at a send start and a send end by the rule that it names, and the answer with a send interval
-abbrev pub delays_at : Contact → ℕ → ℕ → Delays
+abbrev pub delays_at : Contact → ℕ → ℕ → Option Delays
 delays_at c = delays_of c.choices.rule.0 (delay_list c)
 
 abbrev pub answer_in : Contact → Interval → Offer

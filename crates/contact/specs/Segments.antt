@@ -7,6 +7,8 @@ use Rattle.segmentation.specs.declared.RateSegment.{RateSegment}
 use Rattle.segmentation.specs.declared.VolumeSegment.{VolumeSegment}
 use Rattle.segmentation.specs.declared.DelaySegment.{DelaySegment}
 use Rattle.segmentation.specs.Capacity.{rate_of}
+-- an unused place is zero
+unfoldable pub use Rattle.segmentation.specs.Blank.{no_volume, no_delay}
 
 abbrev pub rate_span : RateSegment → Interval
 rate_span s = record { start = s.start; end = s.end }
@@ -51,10 +53,3 @@ zero_volume = record { start = record { 0 = 0 }; end = record { 0 = 0 }; volume 
 
 abbrev pub zero_delay : DelaySegment
 zero_delay = record { start = record { 0 = 0 }; end = record { 0 = 0 }; delay = record { 0 = 0 } }
-
--- an unused place is zero
-unfoldable pub no_volume : VolumeSegment → Bool
-no_volume s = both (eqb s.start.0 0) (both (eqb s.end.0 0) (eqb s.volume.0 0))
-
-unfoldable pub no_delay : DelaySegment → Bool
-no_delay s = both (eqb s.start.0 0) (both (eqb s.end.0 0) (eqb s.delay.0 0))

@@ -1,183 +1,86 @@
-// The record's tests: the segments that it uses, and the places that it does not use.
-ghost use Rattle.std.specs.Prelude.{◌≡◌, ◌≤◌, take, drop};
-ghost use Rattle.units.specs.Limits.{segments_max};
+// The tests of an opening's delays, and of the segments that a record uses.
+ghost use Rattle.std.specs.Prelude.{◌≡◌, true, false, MatchOption, take, drop};
 ghost use Rattle.units.specs.Logic.{both, all_of};
-ghost use Rattle.contact.specs.Segments.{delay_span, spans, delay_ok, delays_ok, no_volume, no_delay};
+ghost use Rattle.contact.specs.Segments.{delay_ok, delays_ok, no_volume, no_delay};
 ghost use Rattle.contact.specs.Granted.{takes_of, volumes_ok, counted_volumes};
 
+use crate::span;
+use crate::span::Span;
 use segmentation::{DelaySegment, RateSegment, VolumeSegment};
+use units::blank::unused;
 use units::{Date, Delay, Interval, Rate, Volume};
 
-// try_init's second loop: do the delay segments cover the window exactly, each delay inside its limits?
-pub fn delays_cover(
-    delays: [DelaySegment; DelaySegment::COUNT_MAX],
-    count: usize,
-    window: Interval,
-) -> bool
-    requires { count ≤ segments_max }
-    ensures { result ≡ both (spans delay_span window.start.0 window.end.0 (take count delays)) (all_of delay_ok (take count delays)) }
+// Is each delay inside its limits?
+pub fn short(delays: &[DelaySegment]) -> bool
+    ensures { result ≡ all_of delay_ok delays.now }
 {
-    let end = window.end;
-    let mut i: usize = 0;
-    let mut at = window.start;
-    loop {
-        if count <= i {
-            break at.0 == end.0;
-        }
-        let s = delays[i];
-        if s.start.0 != at.0 {
-            break false;
-        }
-        if s.end.0 <= s.start.0 {
-            break false;
-        }
-        if Delay::MAX < s.delay.0 {
-            break false;
-        }
-        at = s.end;
-        i += 1;
-    }
+    delays.iter().all(|s| s.delay.0 <= Delay::MAX)
 }
 
-// The delay list: 1 to 16 segments that cover the window exactly, each delay inside its limits.
+// try_init's second loop: the delay segments that a list of so many uses, if they are 1 to 16, cover the window exactly, and are short.
 pub fn delays_are(
-    delays: [DelaySegment; DelaySegment::COUNT_MAX],
+    delays: &[DelaySegment; DelaySegment::COUNT_MAX],
     count: usize,
     window: Interval,
-) -> bool
-    ensures { result ≡ delays_ok window count delays }
+) -> Option<&[DelaySegment]>
+    ensures { MatchOption result (delays_ok window count delays.now ≡ false) (λ l. (delays_ok window count delays.now ≡ true) × (l.now ≡ take count delays.now)) }
 {
-    if count < 1 {
-        return false;
-    }
-    if DelaySegment::COUNT_MAX < count {
-        return false;
-    }
-    delays_cover(delays, count, window)
+    let list = span::covering(delays, count, window)?;
+    short(list).then_some(list)
 }
 
 // Does the volume segment follow, is it not empty, within the volume that is left, and a rate inside its limits times its length?
+#[tactic(auto, unfolding(crate::specs::Granted::takes_of, units::specs::Logic::both))]
 pub fn takes(s: VolumeSegment, at: Date, room: Volume) -> bool
     ensures { result ≡ takes_of s at.0 room.0 }
 {
-    let a = s.start.0;
-    let b = s.end.0;
-    let v = s.volume.0;
-    if a != at.0 {
-        return false;
-    }
-    if b <= a {
-        return false;
-    }
-    if room.0 < v {
-        return false;
-    }
-    if Rate::MAX < v / (b - a) {
-        return false;
-    }
-    v % (b - a) == 0
+    s.follows(at)
+        && s.volume <= room
+        && s.volume.0 / (s.end.0 - s.start.0) <= Rate::MAX
+        && s.volume.0 % (s.end.0 - s.start.0) == 0
 }
 
 // Do the volume segments keep the record's rules: what an opening tests of their rates, and a rate times its length each?
-pub fn volumes_ok(
-    rates: [VolumeSegment; RateSegment::COUNT_MAX],
-    count: usize,
-    window: Interval,
-) -> bool
-    requires { count ≤ segments_max }
-    ensures { result ≡ volumes_ok window (take count rates) }
+pub fn volumes_ok(rates: &[VolumeSegment], window: Interval) -> bool
+    ensures { result ≡ volumes_ok window rates.now }
 {
-    let end = window.end;
-    let mut i: usize = 0;
+    // Not `span::covers`: the volume left goes on from segment to segment beside the date, in one pass.
     let mut at = window.start;
     let mut room = Volume(Volume::MAX);
-    loop {
-        if count <= i {
-            break at.0 == end.0;
-        }
-        let s = rates[i];
-        if !takes(s, at, room) {
-            break false;
+    for s in rates {
+        if !takes(*s, at, room) {
+            return false;
         }
         room = Volume(room.0 - s.volume.0);
         at = s.end;
-        i += 1;
     }
+    at == window.end
 }
 
-// The record's rate list: 1 to 16 volume segments that keep the rules.
-pub fn volumes_are(
-    rates: [VolumeSegment; RateSegment::COUNT_MAX],
+// The record's rates: 1 to 16 volume segments that keep the rules, and nothing past them.
+pub fn rates_kept(
+    rates: &[VolumeSegment; RateSegment::COUNT_MAX],
     count: usize,
     window: Interval,
 ) -> bool
-    ensures { result ≡ counted_volumes window count rates }
+    ensures { result ≡ both (counted_volumes window count rates.now) (all_of no_volume (drop count rates.now)) }
 {
-    if count < 1 {
-        return false;
-    }
-    if RateSegment::COUNT_MAX < count {
-        return false;
-    }
-    volumes_ok(rates, count, window)
-}
-
-// Is nothing in the place?
-pub fn no_volume(s: VolumeSegment) -> bool
-    ensures { result ≡ no_volume s }
-{
-    if s.start.0 != 0 {
-        return false;
-    }
-    if s.end.0 != 0 {
-        return false;
-    }
-    s.volume.0 == 0
-}
-
-pub fn no_delay(s: DelaySegment) -> bool
-    ensures { result ≡ no_delay s }
-{
-    if s.start.0 != 0 {
-        return false;
-    }
-    if s.end.0 != 0 {
-        return false;
-    }
-    s.delay.0 == 0
-}
-
-// Is nothing in the places from the count on?
-pub fn rates_unused(rates: [VolumeSegment; RateSegment::COUNT_MAX], count: usize) -> bool
-    requires { count ≤ segments_max }
-    ensures { result ≡ all_of no_volume (drop count rates) }
-{
-    let mut i = count;
-    loop {
-        if RateSegment::COUNT_MAX <= i {
-            break true;
-        }
-        let s = rates[i];
-        if !no_volume(s) {
-            break false;
-        }
-        i += 1;
+    match span::used(rates, count) {
+        Some(list) => volumes_ok(list, window) && unused(&rates[count..]),
+        None => false,
     }
 }
 
-pub fn delays_unused(delays: [DelaySegment; DelaySegment::COUNT_MAX], count: usize) -> bool
-    requires { count ≤ segments_max }
-    ensures { result ≡ all_of no_delay (drop count delays) }
+// The record's delays: what an opening tests of them, and nothing past them.
+pub fn delays_kept(
+    delays: &[DelaySegment; DelaySegment::COUNT_MAX],
+    count: usize,
+    window: Interval,
+) -> bool
+    ensures { result ≡ both (delays_ok window count delays.now) (all_of no_delay (drop count delays.now)) }
 {
-    let mut i = count;
-    loop {
-        if DelaySegment::COUNT_MAX <= i {
-            break true;
-        }
-        let s = delays[i];
-        if !no_delay(s) {
-            break false;
-        }
-        i += 1;
+    match delays_are(delays, count, window) {
+        Some(_) => unused(&delays[count..]),
+        None => false,
     }
 }

@@ -1,7 +1,7 @@
 // Records built to break a rule, and valid ones at the border of one: what every call of each manager answers.
 #![tactic(auto)]
 
-pub mod choices;
+pub mod contacts;
 pub mod free;
 pub mod out;
 pub mod over;

@@ -1,58 +1,47 @@
-// A line for each record: the manager's letter, the record's, then whether it keeps its rules and the calls' numbers.
-use std::io;
+// What the calls of a record answer, a line for each record.
+use std::{fmt, io};
+use units::{Bundle, Date, TxData};
 
-fn digit(n: u8) -> u8 {
-    n % 10 + 48
+// What a record's calls are asked: a dry run at a time, and the booking of the four dates that a record which keeps its rules offers.
+#[derive(Clone, Copy)]
+pub struct Asked {
+    pub at: Date,
+    pub bundle: Bundle,
+    pub dates: TxData,
 }
 
-fn tens(n: u8) -> u8 {
-    n / 10 % 10 + 48
+// Does the record keep its rules, and what are the numbers of its dry run, its booking and its list?
+#[derive(Clone, Copy)]
+pub struct Answers {
+    pub good: bool,
+    pub dry_run: u8,
+    pub book: u8,
+    pub list: u8,
 }
 
-pub fn line(
+impl fmt::Display for Answers {
+    fn fmt<W: fmt::Write>(&self, f: &mut fmt::Formatter<W>) -> fmt::Result {
+        let good = self.good as u8;
+        write!(
+            f,
+            "{good} {:02} {:02} {:02}",
+            self.dry_run, self.book, self.list
+        )
+    }
+}
+
+// A record of any manager. Its four impls have one text: the managers have no trait in common, as C has their calls by name.
+pub trait Record: Copy {
+    fn answers(self, asked: &Asked) -> Answers;
+}
+
+// The manager's letter and the record's, then the answers.
+pub fn report<R: Record>(
     rt: &impl Print,
-    manager: u8,
-    label: u8,
-    good: bool,
-    dry_run: u8,
-    book: u8,
-    list: u8,
+    manager: char,
+    label: char,
+    asked: &Asked,
+    r: R,
 ) -> io::Result<()> {
-    let yes: u8 = if good { 1 } else { 0 };
-    let text = [
-        manager,
-        label,
-        32,
-        digit(yes),
-        32,
-        tens(dry_run),
-        digit(dry_run),
-        32,
-        tens(book),
-        digit(book),
-        32,
-        tens(list),
-        digit(list),
-        10,
-    ];
-    rt.write_all(&text)
-}
-
-// A figure of three digits beside its call's number.
-pub fn figure(rt: &impl Print, letter: u8, label: u8, number: u8, figure: u64) -> io::Result<()> {
-    let hundreds = (figure / 100 % 10) as u8;
-    let rest = (figure % 100) as u8;
-    let text = [
-        letter,
-        label,
-        32,
-        tens(number),
-        digit(number),
-        32,
-        digit(hundreds),
-        tens(rest),
-        digit(rest),
-        10,
-    ];
-    rt.write_all(&text)
+    println!(rt; "{manager}{label} {}", r.answers(asked))
 }

@@ -10,8 +10,8 @@ use Rattle.units.specs.Answer.{offers, booking_of}
 use Rattle.units.specs.Strict.{forbids}
 use Rattle.units.proofs.Logic.{unless-go, unless-stop}
 use Rattle.contact.specs.Record.{strict_of}
-use Rattle.bookings.specs.declared.Run.{Run}
-use Rattle.bookings.specs.declared.Run.TheVariants.{Sent}
+use Rattle.bookings.specs.Search.{Run}
+use Rattle.std.specs.declared.ops.ControlFlow.TheVariants.{Break}
 use Rattle.pseg.specs.declared.PrioritySeg.{PrioritySeg}
 use Rattle.pseg.specs.declared.Booked.{Booked}
 use Rattle.pseg.specs.Record.{record_ok}
@@ -32,7 +32,7 @@ module _ (r : PrioritySeg) (at : Date) (b : Bundle) (d : TxData) (ok : record_ok
   unfolding Tells
   book-earliest zero =
       let q = book-accepted r at b d ok zero in
-      let tells : Tells (StartIn r at b) (Sent d.send) = rw q.found at (run-tells r at b ok q.some none) in
+      let tells : Tells (StartIn r at b) (Break d.send) = rw q.found at (run-tells r at b ok q.some none) in
       tells
 
   module _ (fits : bundle_ok at b ≡ true) where

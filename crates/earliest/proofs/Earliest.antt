@@ -13,8 +13,9 @@ use Rattle.units.specs.Limits.{bundle_ok}
 use Rattle.units.specs.Answer.{same_dates, offers}
 use Rattle.units.proofs.Logic.{both-fst, both-snd}
 use Rattle.units.proofs.Loads.{asked-load, load}
-use Rattle.bookings.specs.declared.Run.{Run}
-use Rattle.bookings.specs.declared.Run.TheVariants.{Idle, Going, Sent}
+use Rattle.bookings.specs.Search.{Run}
+use Rattle.std.specs.declared.ops.ControlFlow.TheVariants.{Continue, Break}
+use Rattle.std.specs.Prelude.{Some, None}
 use Rattle.bookings.specs.Listed.{level_at, listed}
 use Rattle.pseg.specs.declared.PrioritySeg.{PrioritySeg}
 use Rattle.pseg.specs.Record.{record_ok}
@@ -73,9 +74,9 @@ module _ (r : PrioritySeg) (at : Date) (b : Bundle) where
 
     earliest-by : (x : Run) → run_of r at.0 b ≡ x → Tells (StartIn r at b) x → Earliest r at b (answer_to r x)
     unfolding Tells
-    earliest-by (Sent send) e q = offer-earliest (answer_to r (Sent send)) (sent r b ok some at send e).number (rw (sent r b ok some at send e).sends q)
-    earliest-by (Going send) e q = none-earliest (answer_to r (Going send)) refl q
-    earliest-by Idle e q = none-earliest (answer_to r Idle) refl q
+    earliest-by (Break send) e q = offer-earliest (answer_to r (Break send)) (sent r b ok some at send e).number (rw (sent r b ok some at send e).sends q)
+    earliest-by (Continue (Some send)) e q = none-earliest (answer_to r (Continue (Some send))) refl q
+    earliest-by (Continue None) e q = none-earliest (answer_to r (Continue None)) refl q
 
   -- the dry run's answer is the earliest place, and the rest of it is 01's
   pub dry-earliest : record_ok r ≡ true → NoEmpty r → bundle_ok at b ≡ true → (Earliest r at b (dry_run_of r at b)) × (Rest r b (dry_run_of r at b))

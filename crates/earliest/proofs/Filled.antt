@@ -18,7 +18,7 @@ use Rattle.bookings.specs.declared.BookingSegment.{BookingSegment}
 use Rattle.bookings.specs.Cut.{parts_of, set_of}
 use Rattle.bookings.proofs.Forms.{Form, early, late, whole, left, right, inside, form}
 use Rattle.pseg.specs.Open.{whole_window, open_of}
-use Rattle.pseg.proofs.Facts.{listed_in}
+use Rattle.bookings.proofs.CutLoop.{listed_in}
 use Rattle.pseg.proofs.Kept.{opened-manager, opened-contact}
 use Rattle.earliest.specs.Earliest.{filled, NoEmpty}
 

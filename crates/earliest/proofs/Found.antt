@@ -8,11 +8,11 @@ use Rattle.units.specs.declared.Interval.{Interval}
 use Rattle.units.specs.declared.Bundle.{Bundle}
 use Rattle.units.specs.declared.Offer.{Offer}
 use Rattle.units.specs.Answer.{refused}
-use Rattle.segmentation.specs.declared.End.TheVariants.{At}
+use Rattle.std.specs.Prelude.{Some, None}
 use Rattle.contact.specs.Record.{edition_of, rates_of}
 use Rattle.contact.proofs.Lookup.{Answers}
-use Rattle.bookings.specs.declared.Run.{Run}
-use Rattle.bookings.specs.declared.Run.TheVariants.{Idle, Going, Sent}
+use Rattle.bookings.specs.Search.{Run}
+use Rattle.std.specs.declared.ops.ControlFlow.TheVariants.{Continue, Break}
 use Rattle.pseg.specs.declared.PrioritySeg.{PrioritySeg}
 use Rattle.pseg.specs.Record.{record_ok}
 use Rattle.pseg.specs.DryRun.{run_of, answer_to}
@@ -37,17 +37,17 @@ module _ (r : PrioritySeg) (b : Bundle) where
 
     module _ (at : Date) where
       -- the dates of a run that is found
-      module _ (send : Interval) (e : run_of r at.0 b ≡ Sent send) where
-        ends : end_from r b send.start.0 ≡ At send.end
+      module _ (send : Interval) (e : run_of r at.0 b ≡ Break send) where
+        ends : end_from r b send.start.0 ≡ Some send.end
         ends = (found-free r (facts r ok) at.0 b send e).ends
 
-        pub sent : Answers send (answer_to r (Sent send))
+        pub sent : Answers send (answer_to r (Break send))
         sent = found-answers r (facts r ok) at.0 b send e some
 
-        sent-rest : Rest r b (answer_to r (Sent send))
+        sent-rest : Rest r b (answer_to r (Break send))
         sent-rest = record { ends = λ z. rw sent.sends ends; receives = λ z. rw sent.sends refl; zero = λ z. absurd (omega (arith, sent.number)) }
 
       pub rest-by : (x : Run) → run_of r at.0 b ≡ x → Rest r b (answer_to r x)
-      rest-by (Sent send) e = sent-rest send e
-      rest-by (Going send) e = seven-rest _ refl
-      rest-by Idle e = seven-rest _ refl
+      rest-by (Break send) e = sent-rest send e
+      rest-by (Continue (Some send)) e = seven-rest _ refl
+      rest-by (Continue None) e = seven-rest _ refl

@@ -1,4 +1,4 @@
--- R-8 over the promises of the library's calls, to which the record, or its lists as numbers, are lent; the static library exports them with the same contracts (howrekano_c, proofs/Exported).
+-- R-8 over the promises of the library's calls, to which the record, or its parts, are lent; the static library exports them with the same contracts (howrekano_c, proofs/Exported).
 use Prim.Native.Nat.{ℕ}
 use mathlib.Core.Bool.{true}
 use mathlib.Core.Path.{◌≡◌, sym, ◌∙◌}
@@ -22,7 +22,7 @@ use Rattle.units.specs.Limits.{bundle_ok}
 use Rattle.units.proofs.Determined.{Met}
 use Rattle.pseg.specs.declared.PrioritySeg.{PrioritySeg}
 use Rattle.pseg.specs.Record.{record_ok}
-use Rattle.howrekano.specs.Words.{priority_seg_in, dates_in}
+use Rattle.howrekano.specs.Words.{priority_seg_in}
 use Rattle.howrekano.specs.contracts.priority.hk_priority_dry_run as dry_run
 use Rattle.howrekano.specs.contracts.priority.hk_priority_book as book
 use Rattle.howrekano.proofs.priority.hk_priority_dry_run_kept.Kinds as dry-run-kept-kinds
@@ -53,7 +53,7 @@ module _ {M : Type 1} {𝓤 : Ura M} (𝓛 : Logic 𝓤) (mem : Memory → SProp
       → ent 𝓤 ((book.clauses 𝓛 mem run κs (m, (at, (b, (d, tt))))).ensures tt n e) (fact 𝓤 (n ≡ 0 → Least (StartIn m.now at b) d.now.send.start.0))
   lent-booked-earliest κs d n e = told 𝓤 _ _ (λ is zero. book-earliest m.now at b d.now ok none (sym is.0 ∙ zero))
 
--- the lists lent as numbers: the record is the one that they make
+-- the parts lent: the record is the one that they make
 module _ (κs : Lfts 4) (a : Dens κs dry-run-kept-kinds.ps) where
   abbrev asked : PrioritySeg
   asked = priority_seg_in a.1.1.1.1.1.1.1.1.1.0.now a.0 a.1.0.now a.1.1.0 a.1.1.1.0.now a.1.1.1.1.0 a.1.1.1.1.1.0.now a.1.1.1.1.1.1.0
@@ -73,7 +73,7 @@ module _ (κs : Lfts 6) (a : Dens κs book-kept-kinds.ps) where
   held = priority_seg_in a.1.1.1.1.1.1.1.1.1.1.0.now a.0 a.1.0.now a.1.1.0 a.1.1.1.0.now a.1.1.1.1.0 a.1.1.1.1.1.0.now a.1.1.1.1.1.1.0.now
 
   abbrev stated : TxData
-  stated = dates_in a.1.1.1.1.1.1.1.1.1.0.now
+  stated = a.1.1.1.1.1.1.1.1.1.0.now
 
   pub lent-booked-earliest-kept : record_ok held ≡ true → NoEmpty held → (n : ℕ) → Met (book-kept-reads.Post κs a) n → n ≡ 0
       → Least (StartIn held a.1.1.1.1.1.1.1.0 a.1.1.1.1.1.1.1.1.0) stated.send.start.0

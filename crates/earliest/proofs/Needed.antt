@@ -18,7 +18,7 @@ use Rattle.units.specs.Strict.{strict_ok, forbids}
 use Rattle.units.specs.Arrays.{padded}
 use Rattle.segmentation.specs.declared.RateSegment.{RateSegment}
 use Rattle.segmentation.specs.declared.DelaySegment.{DelaySegment}
-use Rattle.segmentation.specs.declared.End.TheVariants.{At}
+use Rattle.std.specs.Prelude.{Some}
 use Rattle.segmentation.specs.Capacity.{rate_at, cap_of}
 use Rattle.segmentation.specs.End.{reach_of as tick_of, close_of, end_of}
 use Rattle.segmentation.specs.Delay.{belongs, from_date, delays_of}
@@ -32,7 +32,8 @@ use Rattle.bookings.specs.Search.{reach_of, begin_of, broken_of, free_of, turn_o
 use Rattle.bookings.specs.Cut.{segment, parts_of, set_of, set_bookings}
 use Rattle.pseg.specs.declared.PrioritySeg.{PrioritySeg}
 use Rattle.pseg.specs.Record.{bookings_ok, record_ok}
-use Rattle.pseg.specs.Open.{list_in, open_of}
+use Rattle.bookings.specs.Cut.{list_in}
+use Rattle.pseg.specs.Open.{open_of}
 use Rattle.pseg.specs.DryRun.{dry_run_of}
 use Rattle.pseg.specs.Book.{book_of}
 use Rattle.earliest.specs.Earliest.{end_from, value_at, StartIn, Earliest}
@@ -91,7 +92,7 @@ Answers = (Fits hiding 4 0) × (answer hiding 4 0 ≡ refused 7) × (Fits offeri
 
 -- from 0 the end is 2, and the ticks 0 and 1 have the value -1 in the first; the tick 1 has the value 1 in the other
 abbrev Figures : Type 0
-Figures = (end_from hiding (bundle 4 0) 0 ≡ At (date 2)) × (value_at hiding 0 ≡ negsuc 0) × (value_at hiding 1 ≡ negsuc 0) × (value_at offering 1 ≡ pos 1)
+Figures = (end_from hiding (bundle 4 0) 0 ≡ Some (date 2)) × (value_at hiding 0 ≡ negsuc 0) × (value_at hiding 1 ≡ negsuc 0) × (value_at offering 1 ≡ pos 1)
 
 pub computed : Reached × Answers × Figures
 unfolding both all_of one_or_two strict_ok forbids window_ok load_ok bundle_ok same_dates offers padded rate_at cap_of tick_of close_of end_of belongs from_date delays_of spans covers delays_ok no_volume no_delay total_of volume_ok choices_ok open_contact contact_ok follows cover_ok level_at no_booking reach_of begin_of broken_of free_of turn_of search_of parts_of set_of set_bookings bookings_ok record_ok open_of dry_run_of book_of

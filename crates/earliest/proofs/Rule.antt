@@ -6,26 +6,25 @@ use mathlib.Core.Logic.{⊎_elim, ◌⊎◌, inl, inr}
 use native.Mathlib.Omega.{arith}
 use Rattle.units.specs.declared.Date.{Date}
 use Rattle.segmentation.specs.declared.VolumeSegment.{VolumeSegment}
-use Rattle.segmentation.specs.declared.End.{End}
-use Rattle.segmentation.specs.declared.End.TheVariants.{At, None}
+use Rattle.std.specs.Prelude.{Option, Some, None}
 use Rattle.segmentation.specs.End.{close_of, end_of}
 use Rattle.segmentation.proofs.EndLaws.{end-ends, end-monotone-start, end-none-start}
 
 -- an end is not before its tick and by the date hi; where a tick has an end, each earlier one has an end that is no later
-pub record Orderly (E : ℕ → End) (hi : ℕ) : Type 0 where
-  pub forth : (s : ℕ) (e : Date) → E s ≡ At e → s ≤ e.0
-  pub by : (s : ℕ) (e : Date) → E s ≡ At e → e.0 ≤ hi
-  pub sooner : (s u : ℕ) (e : Date) → s ≤ u → E u ≡ At e → (d : Date) × ((E s ≡ At d) × (d.0 ≤ e.0))
+pub record Orderly (E : ℕ → Option Date) (hi : ℕ) : Type 0 where
+  pub forth : (s : ℕ) (e : Date) → E s ≡ Some e → s ≤ e.0
+  pub by : (s : ℕ) (e : Date) → E s ≡ Some e → e.0 ≤ hi
+  pub sooner : (s u : ℕ) (e : Date) → s ≤ u → E u ≡ Some e → (d : Date) × ((E s ≡ Some d) × (d.0 ≤ e.0))
 
-pub no_end : (e : Date) → None ≡ At e → ⊥
+pub no_end : (e : Date) → None ≡ Some e → ⊥
 no_end e h = let z : ◌≡◌ {A = ℕ} 0 1 = cc in omega arith
 
-pub one_end : (d e : Date) (x : End) → x ≡ At d → x ≡ At e → d.0 ≡ e.0
-one_end d e x h k = let z : At d ≡ At e = sym h ∙ k in let q : d.0 ≡ e.0 = cc in q
+pub one_end : (d e : Date) (x : Option Date) → x ≡ Some d → x ≡ Some e → d.0 ≡ e.0
+one_end d e x h k = let z : Some d ≡ Some e = sym h ∙ k in let q : d.0 ≡ e.0 = cc in q
 
-end-cases : (x : End) → (x ≡ None) ⊎ ((d : Date) × (x ≡ At d))
+end-cases : (x : Option Date) → (x ≡ None) ⊎ ((d : Date) × (x ≡ Some d))
 end-cases None = inl refl
-end-cases (At d) = inr (d, refl)
+end-cases (Some d) = inr (d, refl)
 
 -- the window's end is the same from every tick
 close-any : (l : List VolumeSegment) (lo hi s : ℕ) → lo < hi → close_of lo l ≡ hi → close_of s l ≡ hi
@@ -43,6 +42,6 @@ end-orderly k l v lo hi pos some close =
           (λ (n : end_of k l s v hi ≡ None).
           let last : close_of s l ≤ hi = omega (arith, close-any l lo hi s some close) in
           absurd (no_end e (sym (end-none-start k l s v hi pos last n u hi le) ∙ z)))
-          (λ (q : (d : Date) × (end_of k l s v hi ≡ At d)). (q.0, (q.1, end-monotone-start l s u v le k hi hi q.0 e q.1 z)))
+          (λ (q : (d : Date) × (end_of k l s v hi ≡ Some d)). (q.0, (q.1, end-monotone-start l s u v le k hi hi q.0 e q.1 z)))
           (end-cases (end_of k l s v hi));
     }

@@ -6,16 +6,16 @@ use mathlib.Core.List.{List, [], ◌∷◌}
 use mathlib.Core.Logic.{⊎_elim}
 use native.Mathlib.Omega.{arith}
 use borrow.Author.Tests.{ltb-true}
+use Rattle.units.specs.declared.Date.{Date}
 use Rattle.units.specs.declared.Interval.{Interval}
 use Rattle.units.specs.Answer.{interval}
 use Rattle.units.specs.Logic.{all_of}
 use Rattle.units.proofs.Logic.{all_head, all_tail}
 use Rattle.units.proofs.Numbers.{le-or-lt}
-use Rattle.segmentation.specs.declared.End.{End}
-use Rattle.segmentation.specs.declared.End.TheVariants.{At, None}
+use Rattle.std.specs.Prelude.{Option, Some, None}
 use Rattle.bookings.specs.declared.BookingSegment.{BookingSegment}
-use Rattle.bookings.specs.declared.Run.{Run}
-use Rattle.bookings.specs.declared.Run.TheVariants.{Idle, Going, Sent}
+use Rattle.bookings.specs.Search.{Run}
+use Rattle.std.specs.declared.ops.ControlFlow.TheVariants.{Continue, Break}
 use Rattle.bookings.specs.Listed.{level_at, cover_ok}
 use Rattle.bookings.specs.Search.{reach_of, begin_of, broken_of, free_of, turn_of, search_of}
 use Rattle.bookings.proofs.CoverLaws.{Cover, cover-of}
@@ -28,9 +28,9 @@ use Rattle.earliest.proofs.Rule.{Orderly, no_end, one_end}
 
 -- what the search's outcome says of the ticks of which P holds: the run that is found starts at the least; where none is found there is none
 unfoldable pub Tells : (ℕ → Type 0) → Run → Type 0
-Tells P (Sent run) = Least P run.start.0
-Tells P (Going run) = (s : ℕ) → P s → ⊥
-Tells P Idle = (s : ℕ) → P s → ⊥
+Tells P (Break run) = Least P run.start.0
+Tells P (Continue (Some run)) = (s : ℕ) → P s → ⊥
+Tells P (Continue None) = (s : ℕ) → P s → ⊥
 
 -- a covered window does not end before it starts
 cover-forth : (a b : ℕ) (f : List BookingSegment) → Cover a b f → a ≤ b
@@ -38,7 +38,7 @@ unfolding Cover
 cover-forth a b [] c = omega (arith, c)
 cover-forth a b (g ∷ f) c = omega (arith, c.0, c.1, cover-forth g.end.0 b f c.3)
 
-module _ (E : ℕ → End) (level : ℕ → ℕ) (lo hi t p : ℕ) (rule : Orderly E hi) where
+module _ (E : ℕ → Option Date) (level : ℕ → ℕ) (lo hi t p : ℕ) (rule : Orderly E hi) where
   -- the starts, with the level of a tick for what is booked there
   abbrev Can : ℕ → Type 0
   Can = Start E (λ (u : ℕ). level u ≤ p) lo hi t
@@ -52,9 +52,9 @@ module _ (E : ℕ → End) (level : ℕ → ℕ) (lo hi t p : ℕ) (rule : Order
 
   -- what is known when the search has looked at all before the date a
   unfoldable Known : ℕ → Run → Type 0
-  Known a Idle = (u : ℕ) → Can u → a ≤ u
-  Known a (Going run) = Leads a run
-  Known a (Sent run) = Least Can run.start.0
+  Known a (Continue None) = (u : ℕ) → Can u → a ≤ u
+  Known a (Continue (Some run)) = Leads a run
+  Known a (Break run) = Least Can run.start.0
 
   module _ (g : BookingSegment) (from : lo ≤ g.start.0) (some : g.start.0 < g.end.0) (to : g.end.0 ≤ hi)
       (here : (u : ℕ) → g.start.0 ≤ u → u < g.end.0 → level u ≡ g.level.0) where
@@ -82,10 +82,10 @@ module _ (E : ℕ → End) (level : ℕ → ℕ) (lo hi t p : ℕ) (rule : Order
         (le-or-lt run.end.0 g.end.0)
 
     -- a run begins at s: no start lies before it, and where it has no end no later tick has
-    known-begin : (s : ℕ) (x : End) → E s ≡ x → s ≡ max g.start.0 t → t < g.end.0 → g.level.0 ≤ p → ((u : ℕ) → Can u → g.start.0 ≤ u)
+    known-begin : (s : ℕ) (x : Option Date) → E s ≡ x → s ≡ max g.start.0 t → t < g.end.0 → g.level.0 ≤ p → ((u : ℕ) → Can u → g.start.0 ≤ u)
         → Known g.end.0 (begin_of g.end.0 s x)
     unfolding Known begin_of
-    known-begin s (At e) q m h k first =
+    known-begin s (Some e) q m h k first =
         known-reach (interval s e.0)
         (λ (u : ℕ) (z : Can u). omega (arith, first u z, z.asked))
         (record {
@@ -102,8 +102,8 @@ module _ (E : ℕ → End) (level : ℕ → ℕ) (lo hi t p : ℕ) (rule : Order
 
     known-free : (r : Run) → t < g.end.0 → g.level.0 ≤ p → Known g.start.0 r → Known g.end.0 (free_of E t g r)
     unfolding Known free_of
-    known-free Idle h k q = known-begin (max g.start.0 t) (E (max g.start.0 t)) refl refl h k q
-    known-free (Going run) h k q =
+    known-free (Continue None) h k q = known-begin (max g.start.0 t) (E (max g.start.0 t)) refl refl h k q
+    known-free (Continue (Some run)) h k q =
         let f = q.free in
         known-reach run q.first
         (record {
@@ -114,14 +114,14 @@ module _ (E : ℕ → End) (level : ℕ → ℕ) (lo hi t p : ℕ) (rule : Order
               ⊎_elim (λ (z : g.start.0 ≤ u). omega (arith, here u z y)) (λ (z : u < g.start.0). f.free u x z) (le-or-lt g.start.0 u);
         })
         (omega (arith, q.begun))
-    known-free (Sent run) h k q = q
+    known-free (Break run) h k q = q
 
     -- a segment that ends by the asked time holds no start, and no run is under way there
     known-skip : (r : Run) → g.end.0 ≤ t → Known g.start.0 r → Known g.end.0 r
     unfolding Known
-    known-skip Idle h q = λ (u : ℕ) (z : Can u). omega (arith, z.asked)
-    known-skip (Going run) h q = absurd (omega (arith, q.begun, q.free.asked))
-    known-skip (Sent run) h q = q
+    known-skip (Continue None) h q = λ (u : ℕ) (z : Can u). omega (arith, z.asked)
+    known-skip (Continue (Some run)) h q = absurd (omega (arith, q.begun, q.free.asked))
+    known-skip (Break run) h q = q
 
     -- no start lies in a segment at or above the priority
     outside : p < g.level.0 → (u : ℕ) → Can u → g.start.0 ≤ u → g.end.0 ≤ u
@@ -130,8 +130,8 @@ module _ (E : ℕ → End) (level : ℕ → ℕ) (lo hi t p : ℕ) (rule : Order
     -- nor before it, where the run that it breaks began: an end from there would be no earlier than the run's, which lies past the segment's start
     known-broken : (r : Run) → p < g.level.0 → Known g.start.0 r → Known g.end.0 (broken_of r)
     unfolding Known broken_of
-    known-broken Idle k q = λ (u : ℕ) (z : Can u). outside k u z (q u z)
-    known-broken (Going run) k q =
+    known-broken (Continue None) k q = λ (u : ℕ) (z : Can u). outside k u z (q u z)
+    known-broken (Continue (Some run)) k q =
         λ (u : ℕ) (z : Can u).
         ⊎_elim
         (λ (x : g.start.0 ≤ u). outside k u z x)
@@ -141,7 +141,7 @@ module _ (E : ℕ → End) (level : ℕ → ℕ) (lo hi t p : ℕ) (rule : Order
         let past : g.start.0 < z.end.0 = omega (arith, same, d.1.1, q.ahead) in
         absurd (omega (arith, here g.start.0 (omega arith) some, z.free g.start.0 (omega arith) past)))
         (le-or-lt g.start.0 u)
-    known-broken (Sent run) k q = q
+    known-broken (Break run) k q = q
 
     known-turn : (r : Run) → Known g.start.0 r → Known g.end.0 (turn_of E t p g r)
     known-turn r q =
@@ -168,14 +168,14 @@ module _ (E : ℕ → End) (level : ℕ → ℕ) (lo hi t p : ℕ) (rule : Order
   -- when all has been looked at, a run under way has an end past the window, which the rule does not give
   tells : (r : Run) → Known hi r → Tells Can r
   unfolding Known Tells
-  tells (Sent run) q = q
-  tells (Going run) q = absurd (omega (arith, q.ahead, rule.by run.start.0 run.end q.free.ends))
-  tells Idle q = λ (s : ℕ) (z : Can s). omega (arith, q s z, z.inside.1)
+  tells (Break run) q = q
+  tells (Continue (Some run)) q = absurd (omega (arith, q.ahead, rule.by run.start.0 run.end q.free.ends))
+  tells (Continue None) q = λ (s : ℕ) (z : Can s). omega (arith, q s z, z.inside.1)
 
-pub search-tells : (E : ℕ → End) (lo hi t p : ℕ) (f : List BookingSegment) → Orderly E hi → cover_ok lo hi f ≡ true → all_of filled f ≡ true
-    → Tells (Start E (λ (u : ℕ). level_at f u ≤ p) lo hi t) (search_of E t p f Idle)
+pub search-tells : (E : ℕ → Option Date) (lo hi t p : ℕ) (f : List BookingSegment) → Orderly E hi → cover_ok lo hi f ≡ true → all_of filled f ≡ true
+    → Tells (Start E (λ (u : ℕ). level_at f u ≤ p) lo hi t) (search_of E t p f (Continue None))
 unfolding Known
 search-tells E lo hi t p f rule c n =
-    tells E (level_at f) lo hi t p rule (search_of E t p f Idle)
-    (known-search E (level_at f) lo hi t p rule f lo Idle (omega arith) (cover-of lo hi f c) n (λ (u : ℕ) (x : lo ≤ u). refl)
+    tells E (level_at f) lo hi t p rule (search_of E t p f (Continue None))
+    (known-search E (level_at f) lo hi t p rule f lo (Continue None) (omega arith) (cover-of lo hi f c) n (λ (u : ℕ) (x : lo ≤ u). refl)
     (λ (u : ℕ) (z : Start E (λ (u : ℕ). level_at f u ≤ p) lo hi t u). z.inside.0))

@@ -26,7 +26,8 @@ use Rattle.pseg.specs.declared.PrioritySeg.{PrioritySeg}
 use Rattle.pseg.specs.declared.Opened.{Opened}
 use Rattle.pseg.specs.Record.{record_ok}
 use Rattle.pseg.specs.Book.{book_of}
-use Rattle.pseg.proofs.Facts.{facts, listed_in, found-ends}
+use Rattle.bookings.proofs.CutLoop.{listed_in}
+use Rattle.pseg.proofs.Facts.{facts, found-ends}
 use Rattle.pseg.proofs.Kept.{opened-manager, opened-keeps, Refused, Accepted, set_listed, book-cases, book-keeps}
 use Rattle.pseg.proofs.Second.{found_after}
 use Rattle.pseg.proofs.Strict.{promised}

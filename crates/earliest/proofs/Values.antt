@@ -4,9 +4,10 @@ use native.Mathlib.Omega.{arith}
 use lib.Dec.{ltb→lt, lt→ltb}
 use lib.IntN.{pos}
 use lib.Signed.{◌<ℤ◌, lt_z_yes}
-use Rattle.segmentation.specs.declared.End.{End}
-use Rattle.bookings.specs.declared.Run.{Run}
-use Rattle.bookings.specs.declared.Run.TheVariants.{Idle, Going, Sent}
+use Rattle.std.specs.Prelude.{Option, Some, None}
+use Rattle.units.specs.declared.Date.{Date}
+use Rattle.bookings.specs.Search.{Run}
+use Rattle.std.specs.declared.ops.ControlFlow.TheVariants.{Continue, Break}
 use Rattle.bookings.specs.Listed.{value_of}
 use Rattle.earliest.specs.Start.{Start}
 use Rattle.earliest.proofs.Search.{Tells}
@@ -20,7 +21,7 @@ below-level p zero h = omega arith
 below-level p (suc n) h = omega (arith, ltb→lt n p h.lt)
 
 -- the same starts, for ticks of which the same holds
-pub start-as : (E : ℕ → End) (A B : ℕ → Type 0) (lo hi t s : ℕ) → ((u : ℕ) → A u → B u) → Start E A lo hi t s → Start E B lo hi t s
+pub start-as : (E : ℕ → Option Date) (A B : ℕ → Type 0) (lo hi t s : ℕ) → ((u : ℕ) → A u → B u) → Start E A lo hi t s → Start E B lo hi t s
 start-as E A B lo hi t s f z =
     record {
       asked = z.asked;
@@ -35,6 +36,6 @@ start-as E A B lo hi t s f z =
 -- the search tells the same of the same ticks
 pub tells_as : (P Q : ℕ → Type 0) → ((s : ℕ) → P s → Q s) → ((s : ℕ) → Q s → P s) → (x : Run) → Tells P x → Tells Q x
 unfolding Tells
-tells_as P Q f g (Sent run) q = record { is = f _ q.is; least = λ u z. q.least u (g u z) }
-tells_as P Q f g (Going run) q = λ s z. q s (g s z)
-tells_as P Q f g Idle q = λ s z. q s (g s z)
+tells_as P Q f g (Break run) q = record { is = f _ q.is; least = λ u z. q.least u (g u z) }
+tells_as P Q f g (Continue (Some run)) q = λ s z. q s (g s z)
+tells_as P Q f g (Continue None) q = λ s z. q s (g s z)

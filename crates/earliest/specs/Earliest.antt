@@ -4,7 +4,7 @@ use Rattle.units.specs.declared.Date.{Date}
 use Rattle.units.specs.declared.Bundle.{Bundle}
 use Rattle.units.specs.declared.Offer.{Offer}
 use Rattle.units.specs.Logic.{all_of}
-use Rattle.segmentation.specs.declared.End.{End}
+use Rattle.std.specs.Prelude.{Option}
 use Rattle.contact.specs.Record.{end_rule}
 use Rattle.bookings.specs.declared.BookingSegment.{BookingSegment}
 use Rattle.bookings.specs.Listed.{value_of, level_at, listed}
@@ -12,7 +12,7 @@ use Rattle.pseg.specs.declared.PrioritySeg.{PrioritySeg}
 use Rattle.earliest.specs.Start.{Start, Least}
 
 -- the end rule of the record's edition from a tick, for the bundle's size; its deadline is the window's end
-abbrev pub end_from : PrioritySeg → Bundle → ℕ → End
+abbrev pub end_from : PrioritySeg → Bundle → ℕ → Option Date
 end_from r b s = end_rule r.contact s b.size.0 r.contact.window.end.0
 
 -- the value that is booked at a tick, -1 to 127: that of the listed segment which holds it (-1 where none does, which is outside the window)

@@ -14,9 +14,9 @@ use Rattle.held.specs.declared.Held.{Held}
 use Rattle.held.specs.declared.Done.{Done}
 use Rattle.frames.specs.Opening.{no_frame}
 use Rattle.frames.specs.declared.frame.Frame.{Frame}
-use Rattle.frames.specs.declared.frame.Frame.TheVariants.{Wrong}
 use Rattle.frames.specs.Step.{on, changes, change_of, show_of}
 use Rattle.frames.specs.Granted.{kind_frame}
+use Rattle.std.specs.Prelude.{Option, None}
 
 -- the table's line of another kind
 miss : {A : Type 0} (a : A) {k n : ℕ} {r e : A} → (k ≡ n → ⊥) → e ≡ r → on k n a e ≡ r
@@ -28,11 +28,11 @@ or_no p q = rw (ne_eqb _ _ p) q
 
 -- what the tables say of a number, or of none of theirs, they say of the kind that was read
 module _ (line : List ℕ) {k : ℕ} (read : k ≡ byte_at line 0) where
-  pub frame-as : {n : ℕ} {r : Frame} → k ≡ n → r ≡ kind_frame n line → r ≡ kind_frame (byte_at line 0) line
+  pub frame-as : {n : ℕ} {r : Option Frame} → k ≡ n → r ≡ kind_frame n line → r ≡ kind_frame (byte_at line 0) line
   frame-as e q = q ∙ ap (λ (j : ℕ). kind_frame j line) (sym e ∙ read)
 
   pub frame-none : (k ≡ 1 → ⊥) → (k ≡ 2 → ⊥) → (k ≡ 3 → ⊥) → (k ≡ 4 → ⊥) → (k ≡ 16 → ⊥) → (k ≡ 17 → ⊥) → (k ≡ 18 → ⊥) → (k ≡ 19 → ⊥) → (k ≡ 20 → ⊥) → (k ≡ 21 → ⊥) → (k ≡ 33 → ⊥) → (k ≡ 34 → ⊥) → (k ≡ 35 → ⊥)
-      → Wrong ≡ kind_frame (byte_at line 0) line
+      → None ≡ kind_frame (byte_at line 0) line
   unfolding kind_frame
   frame-none a b d e f g i j l m o p q =
       frame-as refl

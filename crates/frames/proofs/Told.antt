@@ -1,30 +1,21 @@
--- What is told: an answer's line at the front of the lent one, with its length; the list of each kind's record; the cases of a step.
-use Prim.Native.Nat.{ℕ}
-use mathlib.Core.Path.{◌≡◌, refl, ap, sym, ◌∙◌}
+-- What is told: an answer's line at the front of the lent one, with its length; the cases of a step.
+use Prim.Native.Nat.{ℕ, ◌≤◌}
+use native.Mathlib.Omega.{arith}
+use Rattle.std.proofs.Common.{take}
+use lib.Seq.{length-take-le}
+use Rattle.text.specs.Text.{list_text}
+use Rattle.answer.specs.Lines.{list_line}
+use mathlib.Core.Path.{◌≡◌, ap, sym, ◌∙◌}
 use mathlib.Core.Bool.{true, false}
 use mathlib.Core.List.{List}
 use lib.ListN.{length}
 use Rattle.units.proofs.Logic.{unless-go, unless-stop}
 use Rattle.units.proofs.Choice.{pick_yes, pick_no}
-use Rattle.seg.specs.declared.Listing.{Listing as FreeListing}
-use Rattle.seg.specs.List.{list_of as list_free}
-use Rattle.seg.specs.declared.RoomLeft.{RoomLeft}
-use Rattle.seg.specs.Room.{room_answer}
-use Rattle.pseg.specs.declared.Listing.{Listing as PriorityListing}
-use Rattle.pseg.specs.List.{list_of as list_priority}
-use Rattle.poly_seg.specs.declared.Listing.{Listing as PolynomialListing}
-use Rattle.poly_seg.specs.List.{list_of as list_polynomial}
-use Rattle.legacy.specs.declared.Listing.{Listing as QueueListing}
-use Rattle.legacy.specs.List.{list_of as list_queue}
 use Rattle.hexadecimal.specs.Digits.{byte_at}
 use Rattle.text.specs.Line.{written}
 use Rattle.answer.proofs.Stored.{Stored}
-use Rattle.answer.specs.Lines.{number_line, volumes_line, bookings_line, queues_line, room_line}
-use Rattle.held.specs.declared.Kind.{Kind}
-use Rattle.held.specs.declared.Kind.TheVariants.{Nothing, Free, Priority, Polynomial, Queue}
 use Rattle.held.specs.declared.Held.{Held}
 use Rattle.frames.specs.Opening.{no_frame}
-use Rattle.frames.specs.Calls.{list_as, list_held, room_line_as, room_held}
 use Rattle.frames.specs.Step.{is_line, changes, change_of, show_of, told, step_of, stepped_of}
 
 -- a text that stands at the front of the line does so under an equal one too
@@ -39,38 +30,10 @@ stepped-as line {next = next} e p = record {
   out_after = p.out_after ∙ ap (λ (s : List ℕ × Held). written line 0 s.0) e;
 }
 
--- the list of the record that is held, by its kind
-module _ (h : Held) where
-  by_kind : {k : Kind} {text : List ℕ} → h.kind ≡ k → text ≡ list_as k h → text ≡ list_held h
-  by_kind e q = q ∙ ap (λ (j : Kind). list_as j h) (sym e)
-
-  pub list-nothing : h.kind ≡ Nothing → number_line 1 ≡ list_held h
-  unfolding list_as
-  list-nothing e = by_kind e refl
-
-  pub list-free : {l : FreeListing} → h.kind ≡ Free → l ≡ list_free h.free → volumes_line l.number l.list ≡ list_held h
-  unfolding list_as
-  list-free e q = by_kind e (ap (λ (l : FreeListing). volumes_line l.number l.list) q)
-
-  pub list-priority : {l : PriorityListing} → h.kind ≡ Priority → l ≡ list_priority h.priority → bookings_line l.number l.list ≡ list_held h
-  unfolding list_as
-  list-priority e q = by_kind e (ap (λ (l : PriorityListing). bookings_line l.number l.list) q)
-
-  pub list-polynomial : {l : PolynomialListing} → h.kind ≡ Polynomial → l ≡ list_polynomial h.polynomial → volumes_line l.number l.list ≡ list_held h
-  unfolding list_as
-  list-polynomial e q = by_kind e (ap (λ (l : PolynomialListing). volumes_line l.number l.list) q)
-
-  pub list-queue : {l : QueueListing} → h.kind ≡ Queue → l ≡ list_queue h.queue → queues_line l.number l.classes l.queues ≡ list_held h
-  unfolding list_as
-  list-queue e q = by_kind e (ap (λ (l : QueueListing). queues_line l.number l.classes l.queues) q)
-
-  -- the room, by the kind
-  pub room_as : {k : Kind} {text : List ℕ} → h.kind ≡ k → text ≡ room_line_as k h → text ≡ room_held h
-  room_as e q = q ∙ ap (λ (j : Kind). room_line_as j h) (sym e)
-
-  pub room-free : {a : RoomLeft} → h.kind ≡ Free → a ≡ room_answer h.free → room_line a.number a.room ≡ room_held h
-  unfolding room_line_as
-  room-free e q = room_as e (ap (λ (a : RoomLeft). room_line a.number a.room) q)
+-- the first n of a list lent to the writer of lists: the line has n rows
+module _ {A : Type 0} (text : A → List ℕ) (number n : ℕ) (l : List A) (m : ℕ) (few : n ≤ m) (size : length l ≡ m) where
+  pub lent-line : list_line number (length (take n l)) (list_text text (take n l)) ≡ list_line number n (list_text text (take n l))
+  lent-line = ap (λ (k : ℕ). list_line number k (list_text text (take n l))) (length-take-le n l (omega arith))
 
 -- the cases of a step
 module _ (line : List ℕ) (h : Held) where

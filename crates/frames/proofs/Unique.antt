@@ -12,22 +12,12 @@ use Rattle.frames.proofs.can_change.Kinds as can-change-kinds
 use Rattle.frames.proofs.can_change.Reads as can-change-reads
 use Rattle.frames.proofs.change.Kinds as change-kinds
 use Rattle.frames.proofs.change.Reads as change-reads
-use Rattle.frames.proofs.opening.free.Kinds as opening-free-kinds
-use Rattle.frames.proofs.opening.free.Reads as opening-free-reads
-use Rattle.frames.proofs.opening.priority.Kinds as opening-priority-kinds
-use Rattle.frames.proofs.opening.priority.Reads as opening-priority-reads
-use Rattle.frames.proofs.opening.polynomial.Kinds as opening-polynomial-kinds
-use Rattle.frames.proofs.opening.polynomial.Reads as opening-polynomial-reads
-use Rattle.frames.proofs.opening.queue.Kinds as opening-queue-kinds
-use Rattle.frames.proofs.opening.queue.Reads as opening-queue-reads
-use Rattle.frames.proofs.anew.free.Kinds as anew-free-kinds
-use Rattle.frames.proofs.anew.free.Reads as anew-free-reads
-use Rattle.frames.proofs.anew.priority.Kinds as anew-priority-kinds
-use Rattle.frames.proofs.anew.priority.Reads as anew-priority-reads
-use Rattle.frames.proofs.anew.polynomial.Kinds as anew-polynomial-kinds
-use Rattle.frames.proofs.anew.polynomial.Reads as anew-polynomial-reads
-use Rattle.frames.proofs.anew.queue.Kinds as anew-queue-kinds
-use Rattle.frames.proofs.anew.queue.Reads as anew-queue-reads
+use Rattle.frames.proofs.opening.open.Kinds as open-kinds
+use Rattle.frames.proofs.opening.open.Reads as open-reads
+use Rattle.frames.specs.declared.opening.Opens.{Ghosts}
+use denote.RattleType.{RattleType}
+use denote.Param.Laws.{Laws}
+use mir.Syntax.{Dict}
 use Rattle.frames.proofs.frame.of.Kinds as frame-of-kinds
 use Rattle.frames.proofs.frame.of.Reads as frame-of-reads
 use Rattle.frames.proofs.queueing.call.Kinds as queueing-call-kinds
@@ -59,35 +49,11 @@ module _ (κs : Lfts 1) where
   pub change-unique : (a : Dens κs change-kinds.ps) → Determined (change-reads.Post κs a)
   change-unique a r q x y f g = f ∙ sym g
 
-  pub opening-free-unique : (a : Dens κs opening-free-kinds.ps) → Determined (opening-free-reads.Post κs a)
-  opening-free-unique a r q x y f g = f ∙ sym g
-
-  pub opening-priority-unique : (a : Dens κs opening-priority-kinds.ps) → Determined (opening-priority-reads.Post κs a)
-  opening-priority-unique a r q x y f g = f ∙ sym g
-
-  pub opening-polynomial-unique : (a : Dens κs opening-polynomial-kinds.ps) → Determined (opening-polynomial-reads.Post κs a)
-  opening-polynomial-unique a r q x y f g = f ∙ sym g
-
-  pub opening-queue-unique : (a : Dens κs opening-queue-kinds.ps) → Determined (opening-queue-reads.Post κs a)
-  opening-queue-unique a r q x y f g = f ∙ sym g
-
   pub frame-of-unique : (a : Dens κs frame-of-kinds.ps) → Determined (frame-of-reads.Post κs a)
   frame-of-unique a r q x y f g = f ∙ sym g
 
   pub queueing-call-unique : (a : Dens κs queueing-call-kinds.ps) → Determined (queueing-call-reads.Post κs a)
   queueing-call-unique a r q x y f g = f ∙ sym g
-
-  pub anew-free-unique : (a : Dens κs anew-free-kinds.ps) → Determined (anew-free-reads.Post κs a)
-  anew-free-unique a r q x y f g = f.0 ∙ sym g.0
-
-  pub anew-priority-unique : (a : Dens κs anew-priority-kinds.ps) → Determined (anew-priority-reads.Post κs a)
-  anew-priority-unique a r q x y f g = f.0 ∙ sym g.0
-
-  pub anew-polynomial-unique : (a : Dens κs anew-polynomial-kinds.ps) → Determined (anew-polynomial-reads.Post κs a)
-  anew-polynomial-unique a r q x y f g = f.0 ∙ sym g.0
-
-  pub anew-queue-unique : (a : Dens κs anew-queue-kinds.ps) → Determined (anew-queue-reads.Post κs a)
-  anew-queue-unique a r q x y f g = f.0 ∙ sym g.0
 
   pub offer-unique : (a : Dens κs offer-kinds.ps) → Determined (offer-reads.Post κs a)
   offer-unique a r q x y f g = f ∙ sym g
@@ -126,3 +92,8 @@ module _ (κs : Lfts 2) where
   pub step-unique : (a : Dens κs step-kinds.ps)
       → Determined (Leaves (λ (s : AtExit (ended_of 2 step-kinds.ps step-kinds.r) κs). s.0.now) (step-reads.Post κs a))
   step-unique a = named _ _ _
+
+-- an opening, of whatever a line opens
+module _ (T : RattleType) (L : Laws T) (opens : Ghosts T.Denot) (d : Dict) (κs : Lfts 2) where
+  pub open-unique : (a : Dens κs (open-kinds.ps T L)) → Determined (open-reads.Post T L opens d κs a)
+  open-unique a r q x y f g = f ∙ sym g

@@ -15,9 +15,8 @@ use Rattle.legacy.specs.declared.Listing.{Listing as QueueListing}
 use Rattle.legacy.specs.List.{list_of as list_queue}
 use Rattle.layout.specs.Fields.{date_at, dates_at, bundle_at, has_bytes}
 use Rattle.answer.specs.Lines.{number_line, volumes_line, bookings_line, queues_line, room_line}
-use Rattle.held.specs.declared.Kind.{Kind}
-use Rattle.held.specs.declared.Kind.TheVariants.{Nothing, Free, Priority, Polynomial, Queue}
 use Rattle.held.specs.declared.Held.{Held}
+use Rattle.held.specs.declared.Held.TheVariants.{Nothing, Free, Priority, Polynomial, Queue}
 use Rattle.held.specs.declared.Done.{Done}
 use Rattle.held.specs.Calls.{dry_run_held, book_held, enqueue_held, dequeue_held}
 use Rattle.frames.specs.Opening.{no_frame}
@@ -38,33 +37,25 @@ enqueue_frame line h = unless (has_bytes line 10) (no_frame h) (enqueue_held h (
 unfoldable pub dequeue_frame : List ℕ → Held → Done
 dequeue_frame line h = unless (has_bytes line 10) (no_frame h) (dequeue_held h (bundle_at line 1))
 
--- with none open, 01; else the list of the record of the kind, as its manager lists it
-unfoldable pub list_as : Kind → Held → List ℕ
-list_as Nothing h = number_line 1
-list_as Free h = let l : FreeListing = list_free h.free in volumes_line l.number l.list
-list_as Priority h = let l : PriorityListing = list_priority h.priority in bookings_line l.number l.list
-list_as Polynomial h = let l : PolynomialListing = list_polynomial h.polynomial in volumes_line l.number l.list
-list_as Queue h = let l : QueueListing = list_queue h.queue in queues_line l.number l.classes l.queues
-
--- the list of what is held
-abbrev pub list_held : Held → List ℕ
-list_held h = list_as h.kind h
+-- with none open, 01; else the list of the record that is held, as its manager lists it
+unfoldable pub list_held : Held → List ℕ
+list_held Nothing = number_line 1
+list_held (Free r) = let l : FreeListing = list_free r in volumes_line l.number l.list
+list_held (Priority r) = let l : PriorityListing = list_priority r in bookings_line l.number l.list
+list_held (Polynomial r) = let l : PolynomialListing = list_polynomial r in volumes_line l.number l.list
+list_held (Queue r) = let l : QueueListing = list_queue r in queues_line l.number l.classes l.queues
 
 -- 12, list
 unfoldable pub list_frame : List ℕ → Held → List ℕ
 list_frame line h = unless (has_bytes line 1) (number_line 255) (list_held h)
 
 -- with none open, 01; the room of a free-volume record (02, R-1); on another manager, 0c
-unfoldable pub room_line_as : Kind → Held → List ℕ
-room_line_as Nothing h = number_line 1
-room_line_as Free h = let a : RoomLeft = room_answer h.free in room_line a.number a.room
-room_line_as Priority h = number_line 12
-room_line_as Polynomial h = number_line 12
-room_line_as Queue h = number_line 12
-
--- the room of what is held
-abbrev pub room_held : Held → List ℕ
-room_held h = room_line_as h.kind h
+unfoldable pub room_held : Held → List ℕ
+room_held Nothing = number_line 1
+room_held (Free r) = let a : RoomLeft = room_answer r in room_line a.number a.room
+room_held (Priority r) = number_line 12
+room_held (Polynomial r) = number_line 12
+room_held (Queue r) = number_line 12
 
 -- 15, room
 unfoldable pub room_frame : List ℕ → Held → List ℕ

@@ -1,5 +1,5 @@
 -- Which frame a line is, as the trace program sorts its lines: by its digits, its kind and the length that its kind asks. `frames::step` does not rest on it; proofs/Sorted shows that it sorts as 01's step does.
-use Rattle.std.specs.Prelude.{ℕ, Bool, List, eqb}
+use Rattle.std.specs.Prelude.{ℕ, Bool, List, eqb, Option, None, Some}
 use Rattle.units.specs.Logic.{pick, unless}
 use Rattle.legacy.specs.declared.Queue.{Queue as QueueRecord}
 use Rattle.legacy.specs.declared.Booked.{Booked}
@@ -10,15 +10,15 @@ use Rattle.layout.specs.Opening.{opening_length}
 use Rattle.layout.specs.Polynomial.{polynomial_length}
 use Rattle.layout.specs.Queue.{is_queue}
 use Rattle.frames.specs.declared.frame.Frame.{Frame}
-use Rattle.frames.specs.declared.frame.Frame.TheVariants.{Wrong, Free, Priority, Polynomial, Queue, Offer, Booking, Listing, Queueing, Room}
+use Rattle.frames.specs.declared.frame.Frame.TheVariants.{Free, Priority, Polynomial, Queue, Offer, Booking, Listing, Queueing, Room}
 use Rattle.frames.specs.Step.{is_line, on}
 
 -- the frame, if its line passed its test
-abbrev pub when_of : Bool → Frame → Frame
-when_of fits f = unless fits Wrong f
+abbrev pub when_of : Bool → Frame → Option Frame
+when_of fits f = unless fits None (Some f)
 
 -- the kinds and their lengths
-unfoldable pub kind_frame : ℕ → List ℕ → Frame
+unfoldable pub kind_frame : ℕ → List ℕ → Option Frame
 kind_frame k line =
     on k 1 (when_of (has_bytes line (opening_length line)) Free)
     (on k 2 (when_of (has_bytes line (opening_length line)) Priority)
@@ -33,10 +33,10 @@ kind_frame k line =
     (on k 33 (when_of (has_bytes line (opening_length line)) Free)
     (on k 34 (when_of (has_bytes line (opening_length line)) Priority)
     (on k 35 (when_of (has_bytes line (polynomial_length line)) Polynomial)
-    Wrong))))))))))))
+    None))))))))))))
 
-unfoldable pub frame_of : List ℕ → Frame
-frame_of line = unless (is_line line) Wrong (kind_frame (byte_at line 0) line)
+unfoldable pub frame_of : List ℕ → Option Frame
+frame_of line = unless (is_line line) None (kind_frame (byte_at line 0) line)
 
 -- 13 is enqueue, 14 dequeue
 unfoldable pub queueing_of : List ℕ → QueueRecord → Booked

@@ -4,9 +4,10 @@ ghost use Rattle.text.specs.Line.{written};
 ghost use Rattle.frames.specs.Calls.{offer_frame, book_frame, list_held, list_frame, enqueue_frame, dequeue_frame, room_held, room_frame};
 
 use crate::NO_FRAME;
-use held::{Done, Held, Kind};
+use held::{Done, Held};
 use text::LINE;
 use units::Offer;
+use units::refusal::Refusal;
 
 // Frame 10: time, size, priority.
 pub fn offer(line: &[u8], held: Held) -> Offer
@@ -15,9 +16,7 @@ pub fn offer(line: &[u8], held: Held) -> Offer
     if !layout::has(line, 18) {
         return Offer::refused(NO_FRAME);
     }
-    let at = layout::date_at(line, 1);
-    let bundle = layout::bundle_at(line, 9);
-    held.dry_run(at, bundle)
+    held.dry_run(layout::date_at(line, 1), layout::bundle_at(line, 9))
 }
 
 // Frame 11: the same, and four dates.
@@ -27,10 +26,11 @@ pub fn book(line: &[u8], held: Held) -> Done
     if !layout::has(line, 50) {
         return held.refused(NO_FRAME);
     }
-    let at = layout::date_at(line, 1);
-    let bundle = layout::bundle_at(line, 9);
-    let dates = layout::dates_at(line, 18);
-    held.book(at, bundle, dates)
+    held.book(
+        layout::date_at(line, 1),
+        layout::bundle_at(line, 9),
+        layout::dates_at(line, 18),
+    )
 }
 
 // Frame 13: size, priority.
@@ -40,19 +40,17 @@ pub fn enqueue(line: &[u8], held: Held) -> Done
     if !layout::has(line, 10) {
         return held.refused(NO_FRAME);
     }
-    let bundle = layout::bundle_at(line, 1);
-    held.enqueue(bundle)
+    held.enqueue(layout::bundle_at(line, 1))
 }
 
-// Frame 14: size, priority.
+// Frame 14: size, priority. As frame 13, with the other call: one function over both would be no shorter.
 pub fn dequeue(line: &[u8], held: Held) -> Done
     ensures { result ≡ dequeue_frame line.now held }
 {
     if !layout::has(line, 10) {
         return held.refused(NO_FRAME);
     }
-    let bundle = layout::bundle_at(line, 1);
-    held.dequeue(bundle)
+    held.dequeue(layout::bundle_at(line, 1))
 }
 
 // The list of what is held.
@@ -60,37 +58,27 @@ fn put_list(out: &mut [u8; LINE], held: Held) -> usize
     ensures value { result ≡ length (list_held held) }
     ensures out_after { out.new ≡ written out.old 0 (list_held held) }
 {
-    let kind = held.kind;
-    match kind {
-        Kind::Nothing => answer::put_number(out, units::refusal::RECORD),
-        Kind::Free => {
-            let r = held.free;
+    match held {
+        Held::Nothing => answer::put_number(out, Refusal::Record.number()),
+        Held::Free(r) => {
             let l = r.list();
-            let number = l.number;
-            let list = l.list;
-            answer::put_volumes(out, number, list)
+            let rows = &l.list.segments[..l.list.count];
+            answer::put_list(out, l.number, rows)
         }
-        Kind::Priority => {
-            let r = held.priority;
+        Held::Priority(r) => {
             let l = r.list();
-            let number = l.number;
-            let list = l.list;
-            answer::put_bookings(out, number, list)
+            let rows = &l.list.segments[..l.list.count];
+            answer::put_list(out, l.number, rows)
         }
-        Kind::Polynomial => {
-            let r = held.polynomial;
+        Held::Polynomial(r) => {
             let l = r.list();
-            let number = l.number;
-            let list = l.list;
-            answer::put_volumes(out, number, list)
+            let rows = &l.list.segments[..l.list.count];
+            answer::put_list(out, l.number, rows)
         }
-        Kind::Queue => {
-            let r = held.queue;
+        Held::Queue(r) => {
             let l = r.list();
-            let number = l.number;
-            let classes = l.classes;
-            let queues = l.queues;
-            answer::put_queues(out, number, classes, queues)
+            let rows = &l.queues[..l.classes];
+            answer::put_list(out, l.number, rows)
         }
     }
 }
@@ -107,27 +95,24 @@ pub fn list(out: &mut [u8; LINE], line: &[u8], held: Held) -> usize
 }
 
 // The room of what is held.
+#[tactic(auto, unfolding(crate::specs::Calls::room_held))]
 fn put_room(out: &mut [u8; LINE], held: Held) -> usize
     ensures value { result ≡ length (room_held held) }
     ensures out_after { out.new ≡ written out.old 0 (room_held held) }
 {
-    let kind = held.kind;
-    match kind {
-        Kind::Nothing => answer::put_number(out, units::refusal::RECORD),
-        Kind::Free => {
-            let r = held.free;
+    match held {
+        Held::Nothing => answer::put_number(out, Refusal::Record.number()),
+        Held::Free(r) => {
             let a = r.room();
-            let number = a.number;
-            let room = a.room;
-            answer::put_room(out, number, room)
+            answer::put_room(out, a.number, a.room)
         }
-        Kind::Priority => answer::put_number(out, units::refusal::SELF_UPDATE),
-        Kind::Polynomial => answer::put_number(out, units::refusal::SELF_UPDATE),
-        Kind::Queue => answer::put_number(out, units::refusal::SELF_UPDATE),
+        Held::Priority(_) | Held::Polynomial(_) | Held::Queue(_) => {
+            answer::put_number(out, Refusal::SelfUpdate.number())
+        }
     }
 }
 
-// Frame 15.
+// Frame 15. As frame 12, with the other answer.
 pub fn room(out: &mut [u8; LINE], line: &[u8], held: Held) -> usize
     ensures value { result ≡ length (room_frame line.now held) }
     ensures out_after { out.new ≡ written out.old 0 (room_frame line.now held) }

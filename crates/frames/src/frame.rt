@@ -2,10 +2,9 @@
 ghost use Rattle.std.specs.Prelude.{◌≡◌, Bool};
 ghost use Rattle.frames.specs.Granted.{frame_of, when_of};
 
-// The four openings, with a stated rule or without, the calls, and 13 and 14 together; every other line is none.
+// The four openings, with a stated rule or without, the calls, and 13 and 14 together.
 #[derive(Clone, Copy)]
 pub enum Frame {
-    Wrong,
     Free,
     Priority,
     Polynomial,
@@ -18,23 +17,24 @@ pub enum Frame {
 }
 
 // The frame, if its line passed its test.
-fn when(fits: bool, frame: Frame) -> Frame
+fn when(fits: bool, frame: Frame) -> Option<Frame>
     ensures { result ≡ when_of fits frame }
 {
-    if fits { frame } else { Frame::Wrong }
+    if fits { Some(frame) } else { None }
 }
 
-pub fn of(line: &[u8]) -> Frame
+// The kinds are 01's bytes, as in `kind_frame`.
+pub fn of(line: &[u8]) -> Option<Frame>
     ensures { result ≡ frame_of line.now }
 {
     if !crate::is_line(line) {
-        return Frame::Wrong;
+        return None;
     }
     let kind = hexadecimal::byte_at(line, 0);
     match kind {
-        1 => when(layout::opening::fits(line), Frame::Free),
-        2 => when(layout::opening::fits(line), Frame::Priority),
-        3 => when(layout::polynomial::fits(line), Frame::Polynomial),
+        1 | 33 => when(layout::opening::fits(line), Frame::Free),
+        2 | 34 => when(layout::opening::fits(line), Frame::Priority),
+        3 | 35 => when(layout::polynomial::fits(line), Frame::Polynomial),
         4 => when(layout::queue::fits(line), Frame::Queue),
         16 => when(layout::has(line, 18), Frame::Offer),
         17 => when(layout::has(line, 50), Frame::Booking),
@@ -42,9 +42,6 @@ pub fn of(line: &[u8]) -> Frame
         19 => when(layout::has(line, 10), Frame::Queueing),
         20 => when(layout::has(line, 10), Frame::Queueing),
         21 => when(layout::has(line, 1), Frame::Room),
-        33 => when(layout::opening::fits(line), Frame::Free),
-        34 => when(layout::opening::fits(line), Frame::Priority),
-        35 => when(layout::polynomial::fits(line), Frame::Polynomial),
-        _ => Frame::Wrong,
+        _ => None,
     }
 }

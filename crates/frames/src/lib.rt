@@ -1,7 +1,6 @@
 // One line of the trace program: the frame kind decides the layout and the call; the answer's line is written, and what is held next is returned.
 #![tactic(auto)]
 
-pub mod anew;
 pub mod calls;
 pub mod frame;
 pub mod opening;
@@ -13,6 +12,10 @@ ghost use Rattle.text.specs.Line.{written};
 ghost use Rattle.frames.specs.Step.{is_line, changes, change_of, show_of, step_of, stepped_of};
 
 use held::{Done, Held};
+use legacy::Queue;
+use poly_seg::PolySeg;
+use pseg::PrioritySeg;
+use seg::FreeVolume;
 use text::LINE;
 
 // How long the answer's line is, and what is held after it.
@@ -29,24 +32,20 @@ pub const DIGITS_MAX: usize = 2048;
 pub const NO_FRAME: u8 = 255;
 
 // Does the line hold digits alone, and no more than a frame's?
+#[tactic(auto, unfolding(crate::specs::Step::is_line, units::specs::Logic::both))]
 pub fn is_line(line: &[u8]) -> bool
     ensures { result ≡ is_line line.now }
 {
-    if DIGITS_MAX < line.len() {
-        return false;
-    }
-    hexadecimal::clean(line)
+    line.len() <= DIGITS_MAX && hexadecimal::clean(line)
 }
 
+// Kinds stay 01's numbers here and below, as in `changes`, `change_of` and `show_of` (specs/Step); `frame::of` tests the length too.
 // Can the line's kind change what is held? The others only show it.
 pub fn can_change(line: &[u8]) -> bool
     ensures { result ≡ changes (byte_at line.now 0) }
 {
     let kind = hexadecimal::byte_at(line, 0);
-    match kind {
-        1 | 2 | 3 | 4 | 17 | 19 | 20 | 33 | 34 | 35 => true,
-        _ => false,
-    }
+    matches!(kind, 1 | 2 | 3 | 4 | 17 | 19 | 20 | 33 | 34 | 35)
 }
 
 // A frame that can change what is held: its number, and what is held then.
@@ -55,16 +54,13 @@ pub fn change(line: &[u8], held: Held) -> Done
 {
     let kind = hexadecimal::byte_at(line, 0);
     match kind {
-        1 => opening::free(line, held),
-        2 => opening::priority(line, held),
-        3 => opening::polynomial(line, held),
-        4 => opening::queue(line, held),
+        1 | 33 => opening::open::<FreeVolume>(line, held),
+        2 | 34 => opening::open::<PrioritySeg>(line, held),
+        3 | 35 => opening::open::<PolySeg>(line, held),
+        4 => opening::open::<Queue>(line, held),
         17 => calls::book(line, held),
         19 => calls::enqueue(line, held),
         20 => calls::dequeue(line, held),
-        33 => opening::free(line, held),
-        34 => opening::priority(line, held),
-        35 => opening::polynomial(line, held),
         _ => held.refused(NO_FRAME),
     }
 }
@@ -76,10 +72,7 @@ pub fn show(out: &mut [u8; LINE], line: &[u8], held: Held) -> usize
 {
     let kind = hexadecimal::byte_at(line, 0);
     match kind {
-        16 => {
-            let offer = calls::offer(line, held);
-            answer::put_offer(out, offer)
-        }
+        16 => answer::put_offer(out, calls::offer(line, held)),
         18 => calls::list(out, line, held),
         21 => calls::room(out, line, held),
         _ => answer::put_number(out, NO_FRAME),
@@ -93,24 +86,16 @@ pub fn step(out: &mut [u8; LINE], line: &[u8], held: Held) -> Stepped
 {
     if !is_line(line) {
         let length = answer::put_number(out, NO_FRAME);
-        return Stepped {
-            length: length,
-            held: held,
-        };
+        return Stepped { length, held };
     }
     if can_change(line) {
         let done = change(line, held);
-        let number = done.number;
-        let next = done.held;
-        let length = answer::put_number(out, number);
+        let length = answer::put_number(out, done.number);
         return Stepped {
-            length: length,
-            held: next,
+            length,
+            held: done.held,
         };
     }
     let length = show(out, line, held);
-    Stepped {
-        length: length,
-        held: held,
-    }
+    Stepped { length, held }
 }

@@ -12,7 +12,8 @@ use Rattle.units.specs.Logic.{both, all_of}
 use Rattle.units.proofs.Numbers.{le-or-lt}
 use Rattle.units.proofs.Arrays.{length-padded, take-padded, unused-padded}
 use Rattle.segmentation.specs.declared.VolumeSegment.{VolumeSegment}
-use Rattle.contact.specs.Segments.{zero_volume, no_volume}
+use Rattle.segmentation.specs.Blank.{no_volume}
+use Rattle.contact.specs.Segments.{zero_volume}
 use Rattle.free_list.specs.declared.FreeList.{FreeList}
 use Rattle.free_list.specs.declared.Cut.{Cut}
 use Rattle.free_list.specs.Listed.{list_ok}

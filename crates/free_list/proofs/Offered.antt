@@ -1,7 +1,8 @@
 -- An offer stands at a segment of the list, not before the asked time; the laws of the end rule bound its room and its end.
+use Rattle.std.specs.Prelude.{Option, Some, None}
 use Prim.Native.Nat.{ℕ, zero, suc, ◌<◌, ◌≤◌, max}
 use mathlib.Core.Bool.{Bool, true, false}
-use mathlib.Core.Path.{◌≡◌, refl}
+use mathlib.Core.Path.{◌≡◌, refl, ap}
 use mathlib.Core.List.{List, [], ◌∷◌}
 use native.Mathlib.Omega.{arith}
 use lib.Dec.{leb, ltb}
@@ -12,15 +13,12 @@ use Rattle.units.specs.declared.Interval.{Interval}
 use Rattle.units.specs.Logic.{pick}
 use Rattle.units.specs.Answer.{interval}
 use Rattle.segmentation.specs.declared.VolumeSegment.{VolumeSegment}
-use Rattle.segmentation.specs.declared.End.{End}
-use Rattle.segmentation.specs.declared.End.TheVariants.{At as ends_at, None as no_end}
 use Rattle.segmentation.specs.Capacity.{top_of}
 use Rattle.segmentation.specs.End.{end_of}
 use Rattle.segmentation.proofs.EndLaws.{Ends, end-ends}
 use Rattle.contact.specs.Segments.{zero_volume}
-use Rattle.free_list.specs.declared.Found.{Found}
-use Rattle.free_list.specs.declared.Found.TheVariants.{At, None}
-use Rattle.free_list.specs.Offer.{Rule, up, or_else, further_of, offer_of}
+use Rattle.free_list.specs.declared.Fit.{Fit}
+use Rattle.free_list.specs.Offer.{Rule, fit_at, up, or_else, further_of, offer_of}
 use Rattle.free_list.proofs.ListedLaws.{Listed}
 
 -- what holds of the segment at a place
@@ -55,34 +53,51 @@ pub record Picked (E : Rule) (t v : ℕ) (send : Interval) (g : VolumeSegment) :
   pub from : g.start.0 ≤ send.start.0
   pub late : t ≤ send.start.0
   pub room : v ≤ g.volume.0
-  pub ends : E send.start.0 v g.end.0 ≡ ends_at send.end
+  pub ends : E send.start.0 v g.end.0 ≡ Some send.end
 
-pub no-send : {i : ℕ} {send : Interval} → None ≡ At i send → ⊥
+-- what is found, by its parts
+place_of : Option Fit → ℕ
+place_of (Some x) = x.place
+place_of None = 0
+
+send_of : Interval → Option Fit → Interval
+send_of d (Some x) = x.send
+send_of d None = d
+
+pub fit-place : (i j : ℕ) (a b : Interval) → fit_at i a ≡ fit_at j b → i ≡ j
+unfolding place_of
+fit-place i j a b h = ap place_of h
+
+pub fit-send : (i j : ℕ) (a b : Interval) → fit_at i a ≡ fit_at j b → a ≡ b
+unfolding send_of
+fit-send i j a b h = ap (send_of a) h
+
+pub no-send : {i : ℕ} {send : Interval} → None ≡ fit_at i send → ⊥
 no-send h = let z : ◌≡◌ {A = ℕ} 0 1 = cc in omega arith
 
 -- what is found one place further on is found there
-pub up_at : (P : VolumeSegment → Type 0) (send : Interval) (g : VolumeSegment) (f : List VolumeSegment) (i : ℕ) (o : Found) → up o ≡ At i send
-    → ((j : ℕ) → o ≡ At j send → AtPlace P f j) → AtPlace P (g ∷ f) i
+pub up_at : (P : VolumeSegment → Type 0) (send : Interval) (g : VolumeSegment) (f : List VolumeSegment) (i : ℕ) (o : Option Fit) → up o ≡ fit_at i send
+    → ((j : ℕ) → o ≡ fit_at j send → AtPlace P f j) → AtPlace P (g ∷ f) i
 unfolding AtPlace
-up_at P send g f i (At j x) h k =
-    let p : suc j ≡ i = cc in
-    let q : At j x ≡ At j send = cc in rw (← p) (k j q)
+up_at P send g f i (Some x) h k =
+    let p : suc x.place ≡ i = fit-place _ _ _ _ h in
+    rw (← p) (k x.place (ap (fit_at x.place) (fit-send _ _ _ _ h)))
 up_at P send g f i None h k = absurd (no-send h)
 
 module _ (E : Rule) (l : List VolumeSegment) (hi t v : ℕ) (send : Interval) where
-  try-go : (g : VolumeSegment) (f : List VolumeSegment) (i s : ℕ) (o : Found) → g.start.0 ≤ s → t ≤ s
-      → (c : Bool) (x : End) → leb v g.volume.0 ≡ c → E s v g.end.0 ≡ x
-      → or_else (pick c x no_end) s o ≡ At i send
-      → (o ≡ At i send → AtPlace (Picked E t v send) (g ∷ f) i) → AtPlace (Picked E t v send) (g ∷ f) i
+  try-go : (g : VolumeSegment) (f : List VolumeSegment) (i s : ℕ) (o : Option Fit) → g.start.0 ≤ s → t ≤ s
+      → (c : Bool) (x : Option Date) → leb v g.volume.0 ≡ c → E s v g.end.0 ≡ x
+      → or_else (pick c x None) s o ≡ fit_at i send
+      → (o ≡ fit_at i send → AtPlace (Picked E t v send) (g ∷ f) i) → AtPlace (Picked E t v send) (g ∷ f) i
   unfolding AtPlace
-  try-go g f i s o st le true (ends_at x) p q h k =
-      let e0 : 0 ≡ i = cc in
-      let e1 : interval s x.0 ≡ send = cc in
+  try-go g f i s o st le true (Some x) p q h k =
+      let e0 : 0 ≡ i = fit-place _ _ _ _ h in
+      let e1 : interval s x.0 ≡ send = fit-send _ _ _ _ h in
       rw (← e0, ← e1) (record { from = st; late = le; room = leb-true _ _ p; ends = q })
-  try-go g f i s o st le true no_end p q h k = k h
+  try-go g f i s o st le true None p q h k = k h
   try-go g f i s o st le false x p q h k = k h
 
-  further-picked : (f : List VolumeSegment) (n i : ℕ) → Listed l n hi f → t ≤ n → further_of E f v ≡ At i send → AtPlace (Picked E t v send) f i
+  further-picked : (f : List VolumeSegment) (n i : ℕ) → Listed l n hi f → t ≤ n → further_of E f v ≡ fit_at i send → AtPlace (Picked E t v send) f i
   unfolding further_of Listed
   further-picked [] n i q le h = absurd (no-send h)
   further-picked (g ∷ f) n i q le h =
@@ -90,8 +105,8 @@ module _ (E : Rule) (l : List VolumeSegment) (hi t v : ℕ) (send : Interval) wh
       (λ k. up_at (Picked E t v send) send g f i (further_of E f v) k (λ j z. further-picked f (suc g.end.0) j q.4 (omega (arith, q.0, q.1)) z))
 
   skip-go : (g : VolumeSegment) (f : List VolumeSegment) (n i : ℕ) (c : Bool) → ltb g.end.0 t ≡ c → Listed l n hi (g ∷ f)
-      → ((j : ℕ) → offer_of E f t v ≡ At j send → AtPlace (Picked E t v send) f j)
-      → pick c (up (offer_of E f t v)) (or_else (pick (leb v g.volume.0) (E (max g.start.0 t) v g.end.0) no_end) (max g.start.0 t) (up (further_of E f v))) ≡ At i send
+      → ((j : ℕ) → offer_of E f t v ≡ fit_at j send → AtPlace (Picked E t v send) f j)
+      → pick c (up (offer_of E f t v)) (or_else (pick (leb v g.volume.0) (E (max g.start.0 t) v g.end.0) None) (max g.start.0 t) (up (further_of E f v))) ≡ fit_at i send
       → AtPlace (Picked E t v send) (g ∷ f) i
   unfolding Listed
   skip-go g f n i true p q ih h = up_at (Picked E t v send) send g f i (offer_of E f t v) h ih
@@ -101,19 +116,19 @@ module _ (E : Rule) (l : List VolumeSegment) (hi t v : ℕ) (send : Interval) wh
       (leb v g.volume.0) (E (max g.start.0 t) v g.end.0) refl refl h
       (λ k. up_at (Picked E t v send) send g f i (further_of E f v) k (λ j z. further-picked f (suc g.end.0) j q.4 (omega arith) z))
 
-  pub offer-picked : (f : List VolumeSegment) (n i : ℕ) → Listed l n hi f → offer_of E f t v ≡ At i send → AtPlace (Picked E t v send) f i
+  pub offer-picked : (f : List VolumeSegment) (n i : ℕ) → Listed l n hi f → offer_of E f t v ≡ fit_at i send → AtPlace (Picked E t v send) f i
   unfolding offer_of
   offer-picked [] n i q h = absurd (no-send h)
   offer-picked (g ∷ f) n i q h =
       skip-go g f n i (ltb g.end.0 t) refl q (λ j z. offer-picked f (suc g.end.0) j (unfold Listed in q.4) z) h
 
   -- the send starts not before the asked time
-  pub offer-after : (f : List VolumeSegment) (n i : ℕ) → Listed l n hi f → offer_of E f t v ≡ At i send → t ≤ send.start.0
+  pub offer-after : (f : List VolumeSegment) (n i : ℕ) → Listed l n hi f → offer_of E f t v ≡ fit_at i send → t ≤ send.start.0
   offer-after f n i q h = (place-get (Picked E t v send) f i (offer-picked f n i q h)).late
 
 -- the laws of an end rule from a date on: r is the highest rate
 pub record Laws (k : ℕ) (E : Rule) (l : List VolumeSegment) (lo r : ℕ) : Type 0 where
-  pub ends : (s v d : ℕ) (e : Date) → lo ≤ s → 0 < v → E s v d ≡ ends_at e → Ends k l r s v d e.0
+  pub ends : (s v d : ℕ) (e : Date) → lo ≤ s → 0 < v → E s v d ≡ Some e → Ends k l r s v d e.0
 
 -- the exact rule of each edition has them
 pub exact-laws : (k : ℕ) (l : List VolumeSegment) (lo : ℕ) → Laws k (end_of k l) l lo (top_of l)
@@ -129,7 +144,7 @@ abbrev pub Offered : ℕ → List VolumeSegment → ℕ → List VolumeSegment �
 Offered k l r f i s e v = AtPlace (λ g. Here k l r g s e v) f i
 
 pub offer-at : (k : ℕ) (E : Rule) (l : List VolumeSegment) (lo hi r t v : ℕ) (send : Interval) → Laws k E l lo r → 0 < v
-    → (f : List VolumeSegment) (n i : ℕ) → Listed l n hi f → lo ≤ n → offer_of E f t v ≡ At i send
+    → (f : List VolumeSegment) (n i : ℕ) → Listed l n hi f → lo ≤ n → offer_of E f t v ≡ fit_at i send
     → Offered k l r f i send.start.0 send.end.0 v
 offer-at k E l lo hi r t v send laws pos f n i q le h =
     listed_at (Picked E t v send) (λ g. Here k l r g send.start.0 send.end.0 v) l n hi f i

@@ -16,7 +16,8 @@ use Rattle.units.proofs.Arrays.{take-padded}
 use Rattle.units.proofs.Padded.{padded-is, padded-set}
 use Rattle.segmentation.specs.declared.VolumeSegment.{VolumeSegment}
 use Rattle.segmentation.specs.Capacity.{capacity}
-use Rattle.contact.specs.Segments.{zero_volume, no_volume}
+use Rattle.segmentation.specs.Blank.{no_volume}
+use Rattle.contact.specs.Segments.{zero_volume}
 use Rattle.free_list.specs.declared.FreeList.{FreeList}
 use Rattle.free_list.specs.Room.{room_of}
 use Rattle.free_list.specs.Cut.{rest_of, stretch_of, left_of, cut_of, listed, list_in, cut_answer, list_cut}
@@ -24,7 +25,7 @@ use Rattle.free_list.specs.Granted.{Inside, insert_of, left_in}
 use Rattle.free_list.proofs.RoomLaws.{room-one, room-two}
 use Rattle.free_list.proofs.CutLaws.{left-start, left-flat, left-two}
 
-zero-segment : (a b v : ℕ) → a ≡ 0 → b ≡ 0 → v ≡ 0
+pub zero-segment : (a b v : ℕ) → a ≡ 0 → b ≡ 0 → v ≡ 0
     → record { start = record { 0 = a }; end = record { 0 = b }; volume = record { 0 = v } } ≡ zero_volume
 zero-segment a b v h k m = rw (h, k, m)
 

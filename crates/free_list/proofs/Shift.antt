@@ -1,11 +1,12 @@
 -- A list whose elements are moved up by one, from the place n down: what a turn does, and the store at the end.
-use Prim.Native.Nat.{ℕ, ◌+◌, ◌<◌, ◌≤◌}
+use Prim.Native.Nat.{ℕ, ◌+◌, ◌-◌, ◌<◌, ◌≤◌}
 use mathlib.Core.Path.{◌≡◌, sym, ap, ◌∙◌}
 use mathlib.Core.List.{List, ◌++◌, append_assoc}
 use native.Mathlib.Numerals.{add-one}
 use native.Mathlib.Omega.{arith}
 use lib.ListN.{length, take, drop, get_or, set, length-take, take-append-drop, drop_of_length-le, get_or-append}
-use lib.Seq.{take-suc, set_at, get_or-take, length-take-le}
+use lib.Seq.{paste, take-suc, set_at, get_or-take, length-take-le}
+use Rattle.std.proofs.lemmas.List.{drop-take}
 use Rattle.units.proofs.Loop.{at_place}
 use Rattle.free_list.specs.Granted.{insert_of}
 
@@ -43,6 +44,18 @@ module _ {A : Type 0} (l : List A) (n : ℕ) (z : A) (fits : n < length l) where
   shifted-turn j h =
       shifted-set (j + 1) (get_or l j z) (omega arith)
       ∙ ap (λ (k : List A). take (j + 1) l ++ (k ++ drop (n + 1) l)) (sym (at_place l n j z (omega arith) h))
+
+  -- the elements from i on copied up by one
+  copied-up : (i : ℕ) → i ≤ n → paste l (i + 1) (drop i l) (n - i) ≡ shifted l n i
+  copied-up i h =
+      let all : i + (n - i) ≡ n = omega arith in
+      let part : drop i (take n l) ≡ take (n - i) (drop i l) = ap (λ (m : ℕ). drop i (take m l)) (sym all) ∙ drop-take i (n - i) l in
+      let past : i + 1 + (n - i) ≡ n + 1 = omega arith in
+      rw (part, past, append_assoc)
+
+  -- and a store at i
+  pub copied-set : (i : ℕ) (a : A) → i ≤ n → set (paste l (i + 1) (drop i l) (n - i)) i a ≡ insert_of l n i a
+  copied-set i a h = rw (copied-up i h) (shifted-set i a h)
 
   module _ (i : ℕ) where
     pub moved-first : i ≤ n → Moved l l n i n

@@ -1,4 +1,5 @@
 -- Laws of the walk: what a rate segment adds, the ways of a turn, and what a turn keeps.
+use Rattle.std.specs.Prelude.{Option, Some, None}
 use Prim.Native.Nat.{ℕ, zero, suc, ◌+◌, ◌-◌, ◌*◌, ◌<◌, ◌≤◌, min, max}
 use mathlib.Core.Bool.{true, false}
 use mathlib.Core.Path.{◌≡◌, refl, sym, ap, ◌∙◌}
@@ -7,13 +8,13 @@ use mathlib.Core.Logic.{⊎_elim}
 use native.Mathlib.Nat.{mul-zero, mul-le-mul_left}
 use native.Mathlib.Omega.{arith}
 use lib.Dec.{ltb}
-use lib.ListN.{length, take, drop, get_or, length-take, drop_of_length-le}
+use lib.ListN.{length, drop, get_or, drop_of_length-le}
 use borrow.Author.Tests.{le-leb, lt-leb, lt-ltb, le-ltb, ltb-true, ltb-false}
-use Rattle.units.specs.Limits.{date_max, volume_max, segments_max, listed_max}
+use Rattle.units.specs.Limits.{date_max, volume_max, segments_max}
 use Rattle.units.specs.declared.Date.{Date}
 use Rattle.units.specs.Logic.{pick}
 use Rattle.units.proofs.Logic.{pick-keeps}
-use Rattle.units.proofs.Loop.{at_place}
+use Rattle.units.proofs.Loop.{at-whole}
 use Rattle.units.proofs.Numbers.{le-or-lt}
 use Rattle.segmentation.specs.declared.VolumeSegment.{VolumeSegment}
 use Rattle.segmentation.specs.Capacity.{rate_of, cap_of, capacity}
@@ -21,62 +22,32 @@ use Rattle.segmentation.specs.End.{close_of}
 use Rattle.segmentation.specs.Granted.{SegOk, Run}
 use Rattle.segmentation.proofs.Capacity.{cap-in, cap-past, capacity-split, capacity-none}
 use Rattle.free_list.specs.declared.walk.Walk.{Walk}
-use Rattle.free_list.specs.declared.walk.Taken.{Taken}
-use Rattle.free_list.specs.declared.walk.Taken.TheVariants.{Go, No}
 use Rattle.free_list.specs.Listed.{segment_ok, list_ok}
 use Rattle.free_list.specs.Room.{room_of}
-use Rattle.free_list.specs.Granted.{Window, WalkOk, start_of, found_of, on_of, done_of, turn_of, next_of}
+use Rattle.free_list.specs.Granted.{Window, start_of, found_of, on_of, done_of, turn_of, next_of}
 use Rattle.free_list.proofs.ListedLaws.{segment-early, segment-back, segment-late, segment-is, list-stop, list-go, list-none}
 use Rattle.free_list.proofs.RoomLaws.{room-none, room_cons}
 
 -- The ways of a turn.
-pick-cases : (P : Taken → Type 0) (x y : Taken) (a b : ℕ) → (a < b → P x) → (b ≤ a → P y) → P (pick (ltb a b) x y)
+pick-cases : (P : Option Walk → Type 0) (x y : Option Walk) (a b : ℕ) → (a < b → P x) → (b ≤ a → P y) → P (pick (ltb a b) x y)
 pick-cases P x y a b f g = pick-keeps P (ltb a b) x y (λ e. f (ltb-true _ _ e)) (λ e. g (ltb-false _ _ e))
 
 module _ (w : Walk) (g : VolumeSegment) (s : VolumeSegment) (hi : ℕ) where
-  turn-cases : (P : Taken → Type 0)
-      → (g.start.0 < w.low.0 → P No)
-      → (w.low.0 ≤ g.start.0 → g.end.0 < g.start.0 → P No)
-      → (w.low.0 ≤ g.start.0 → g.start.0 ≤ g.end.0 → hi < g.end.0 → P No)
-      → (w.low.0 ≤ g.start.0 → g.start.0 ≤ g.end.0 → g.end.0 ≤ hi → w.end.0 < g.end.0 → P (Go (on_of w g s)))
-      → (w.low.0 ≤ g.start.0 → g.start.0 ≤ g.end.0 → g.end.0 ≤ hi → g.end.0 ≤ w.end.0 → found_of w g < g.volume.0 → P No)
-      → (w.low.0 ≤ g.start.0 → g.start.0 ≤ g.end.0 → g.end.0 ≤ hi → g.end.0 ≤ w.end.0 → g.volume.0 ≤ found_of w g → P (Go (done_of w g)))
+  turn-cases : (P : Option Walk → Type 0)
+      → (g.start.0 < w.low.0 → P None)
+      → (w.low.0 ≤ g.start.0 → g.end.0 < g.start.0 → P None)
+      → (w.low.0 ≤ g.start.0 → g.start.0 ≤ g.end.0 → hi < g.end.0 → P None)
+      → (w.low.0 ≤ g.start.0 → g.start.0 ≤ g.end.0 → g.end.0 ≤ hi → w.hand.end.0 < g.end.0 → P (Some (on_of w g s)))
+      → (w.low.0 ≤ g.start.0 → g.start.0 ≤ g.end.0 → g.end.0 ≤ hi → g.end.0 ≤ w.hand.end.0 → found_of w g < g.volume.0 → P None)
+      → (w.low.0 ≤ g.start.0 → g.start.0 ≤ g.end.0 → g.end.0 ≤ hi → g.end.0 ≤ w.hand.end.0 → g.volume.0 ≤ found_of w g → P (Some (done_of w g)))
       → P (turn_of w g s hi)
   unfolding turn_of
   turn-cases P f1 f2 f3 f4 f5 f6 =
       pick-cases P _ _ g.start.0 w.low.0 f1
       (λ h1. pick-cases P _ _ g.end.0 g.start.0 (f2 h1)
       (λ h2. pick-cases P _ _ hi g.end.0 (f3 h1 h2)
-      (λ h3. pick-cases P _ _ w.end.0 g.end.0 (f4 h1 h2 h3)
+      (λ h3. pick-cases P _ _ w.hand.end.0 g.end.0 (f4 h1 h2 h3)
       (λ h4. pick-cases P _ _ (found_of w g) g.volume.0 (f5 h1 h2 h3 h4) (f6 h1 h2 h3 h4)))))
-
-  pub turn-early : g.start.0 < w.low.0 → turn_of w g s hi ≡ No
-  unfolding turn_of
-  turn-early h1 = rw (lt-ltb _ _ h1)
-
-  module _ (h1 : w.low.0 ≤ g.start.0) where
-    pub turn-back : g.end.0 < g.start.0 → turn_of w g s hi ≡ No
-    unfolding turn_of
-    turn-back h2 = rw (le-ltb _ _ h1, lt-ltb _ _ h2)
-
-    module _ (h2 : g.start.0 ≤ g.end.0) where
-      pub turn-late : hi < g.end.0 → turn_of w g s hi ≡ No
-      unfolding turn_of
-      turn-late h3 = rw (le-ltb _ _ h1, le-ltb _ _ h2, lt-ltb _ _ h3)
-
-      module _ (h3 : g.end.0 ≤ hi) where
-        pub turn_on : w.end.0 < g.end.0 → turn_of w g s hi ≡ Go (on_of w g s)
-        unfolding turn_of
-        turn_on h4 = rw (le-ltb _ _ h1, le-ltb _ _ h2, le-ltb _ _ h3, lt-ltb _ _ h4)
-
-        module _ (h4 : g.end.0 ≤ w.end.0) where
-          pub turn-short : found_of w g < g.volume.0 → turn_of w g s hi ≡ No
-          unfolding turn_of
-          turn-short h5 = rw (le-ltb _ _ h1, le-ltb _ _ h2, le-ltb _ _ h3, le-ltb _ _ h4, lt-ltb _ _ h5)
-
-          pub turn-done : g.volume.0 ≤ found_of w g → turn_of w g s hi ≡ Go (done_of w g)
-          unfolding turn_of
-          turn-done h5 = rw (le-ltb _ _ h1, le-ltb _ _ h2, le-ltb _ _ h3, le-ltb _ _ h4, le-ltb _ _ h5)
 
 pub next-on : (place m : ℕ) → place + 1 < m → next_of place m ≡ place + 1
 unfolding next_of
@@ -91,53 +62,53 @@ pub record Stands (l : List VolumeSegment) (w : Walk) : Type 0 where
   pub seg : VolumeSegment
   pub ok : SegOk seg
   pub here : drop w.place l ≡ seg ∷ drop (w.place + 1) l
-  pub starts : w.start.0 ≡ seg.start.0
-  pub ends : w.end.0 ≡ seg.end.0
-  pub rates : w.rate.0 ≡ rate_of seg
+  pub starts : w.hand.start.0 ≡ seg.start.0
+  pub ends : w.hand.end.0 ≡ seg.end.0
+  pub rates : w.hand.rate.0 ≡ rate_of seg
   pub run : Run seg.end.0 (drop (w.place + 1) l)
   pub last : close_of seg.end.0 (drop (w.place + 1) l) ≡ close_of 0 l
   pub past : (a n : ℕ) → seg.start.0 ≤ a → cap_of l a n ≡ cap_of (drop w.place l) a n
 
 module _ (l : List VolumeSegment) (w : Walk) (st : Stands l w) where
-  seg-cap : (x y : ℕ) → w.start.0 ≤ x → x ≤ y → y ≤ w.end.0 → capacity l x y ≡ w.rate.0 * (y - x)
+  seg-cap : (x y : ℕ) → w.hand.start.0 ≤ x → x ≤ y → y ≤ w.hand.end.0 → capacity l x y ≡ w.hand.rate.0 * (y - x)
   seg-cap x y h1 h2 h3 =
-      let a : w.start.0 ≡ st.seg.start.0 = st.starts in
-      let b : w.end.0 ≡ st.seg.end.0 = st.ends in
+      let a : w.hand.start.0 ≡ st.seg.start.0 = st.starts in
+      let b : w.hand.end.0 ≡ st.seg.end.0 = st.ends in
       st.past x (y - x) (omega arith)
       ∙ rw (st.here, st.rates) (cap-in st.seg _ x (y - x) (omega arith) (omega arith))
 
   -- what the segment in hand adds to the capacity before it
-  found-is : (a b x y : ℕ) → x ≡ max a w.start.0 → y ≡ min b w.end.0 → w.start.0 ≤ b → a ≤ b
-      → capacity l a w.start.0 + w.rate.0 * (y - x) ≡ capacity l a y
+  found-is : (a b x y : ℕ) → x ≡ max a w.hand.start.0 → y ≡ min b w.hand.end.0 → w.hand.start.0 ≤ b → a ≤ b
+      → capacity l a w.hand.start.0 + w.hand.rate.0 * (y - x) ≡ capacity l a y
   found-is a b x y ex ey h1 h2 =
       let some : st.seg.start.0 < st.seg.end.0 = st.ok.some in
-      let sa : w.start.0 ≡ st.seg.start.0 = st.starts in
-      let sb : w.end.0 ≡ st.seg.end.0 = st.ends in
+      let sa : w.hand.start.0 ≡ st.seg.start.0 = st.starts in
+      let sb : w.hand.end.0 ≡ st.seg.end.0 = st.ends in
       ⊎_elim
-      (λ (h : a ≤ w.start.0).
-      let e : x ≡ w.start.0 = omega arith in
-      let c : capacity l w.start.0 y ≡ w.rate.0 * (y - w.start.0) = seg-cap w.start.0 y (omega arith) (omega arith) (omega arith) in
-      rw e (omega (arith, c, capacity-split l a w.start.0 y h (omega arith))))
-      (λ (h : w.start.0 < a).
+      (λ (h : a ≤ w.hand.start.0).
+      let e : x ≡ w.hand.start.0 = omega arith in
+      let c : capacity l w.hand.start.0 y ≡ w.hand.rate.0 * (y - w.hand.start.0) = seg-cap w.hand.start.0 y (omega arith) (omega arith) (omega arith) in
+      rw e (omega (arith, c, capacity-split l a w.hand.start.0 y h (omega arith))))
+      (λ (h : w.hand.start.0 < a).
       let e : x ≡ a = omega arith in
-      let z : capacity l a w.start.0 ≡ 0 = capacity-none l a w.start.0 (omega arith) in
+      let z : capacity l a w.hand.start.0 ≡ 0 = capacity-none l a w.hand.start.0 (omega arith) in
       rw e
       (⊎_elim
       (λ (k : a ≤ y). omega (arith, z, seg-cap a y (omega arith) k (omega arith)))
       (λ (k : y < a).
       let q : y - a ≡ 0 = omega arith in
-      let p : w.rate.0 * (y - a) ≡ 0 = rw q (mul-zero w.rate.0) in
+      let p : w.hand.rate.0 * (y - a) ≡ 0 = rw q (mul-zero w.hand.rate.0) in
       omega (arith, z, p, capacity-none l a y (omega arith)))
       (le-or-lt a y)))
-      (le-or-lt a w.start.0)
+      (le-or-lt a w.hand.start.0)
 
-  carries : w.rate.0 * (w.end.0 - w.start.0) ≤ volume_max
+  carries : w.hand.rate.0 * (w.hand.end.0 - w.hand.start.0) ≤ volume_max
   carries = rw (st.rates, st.starts, st.ends) (omega (arith, st.ok.whole, st.ok.small))
 
-  forth : w.start.0 ≤ w.end.0
+  forth : w.hand.start.0 ≤ w.hand.end.0
   forth = omega (arith, st.starts, st.ends, st.ok.some)
 
-  stands-more : w.end.0 < close_of 0 l → w.place + 1 < length l
+  stands-more : w.hand.end.0 < close_of 0 l → w.place + 1 < length l
   unfolding close_of
   stands-more h =
       ⊎_elim
@@ -148,7 +119,7 @@ module _ (l : List VolumeSegment) (w : Walk) (st : Stands l w) where
       (le-or-lt (length l) (w.place + 1))
 
   -- the next segment
-  stands_on : (g s : VolumeSegment) → drop (w.place + 1) l ≡ s ∷ drop (w.place + 1 + 1) l → (Stands l (on_of w g s)) × (s.start.0 ≡ w.end.0)
+  stands_on : (g s : VolumeSegment) → drop (w.place + 1) l ≡ s ∷ drop (w.place + 1 + 1) l → (Stands l (on_of w g s)) × (s.start.0 ≡ w.hand.end.0)
   unfolding Run close_of
   stands_on g s e =
       let run : Run st.seg.end.0 (s ∷ drop (w.place + 1 + 1) l) = rw e at st.run in
@@ -168,15 +139,8 @@ module _ (l : List VolumeSegment) (w : Walk) (st : Stands l w) where
         omega (arith, st.ends),
       )
 
-  piece-small : (x y : ℕ) → w.start.0 ≤ x → y ≤ w.end.0 → w.rate.0 * (y - x) ≤ volume_max
-  piece-small x y h k = omega (arith, mul-le-mul_left {m = y - x} {n = w.end.0 - w.start.0} w.rate.0 (omega arith), carries)
-
-pub room_for : (w : Walk) → WalkOk w → (a b : ℕ) → w.rate.0 * (min b w.end.0 - max a w.start.0) ≤ volume_max
-room_for w k a b =
-    omega (arith, mul-le-mul_left {m = min b w.end.0 - max a w.start.0} {n = w.end.0 - w.start.0} w.rate.0 (omega arith), k.carries)
-
-pub piece-none : (r x y : ℕ) → y ≤ x → 0 ≡ r * (y - x)
-piece-none r x y h = let z : y - x ≡ 0 = omega arith in rw z (sym (mul-zero r))
+  piece-small : (x y : ℕ) → w.hand.start.0 ≤ x → y ≤ w.hand.end.0 → w.hand.rate.0 * (y - x) ≤ volume_max
+  piece-small x y h k = omega (arith, mul-le-mul_left {m = y - x} {n = w.hand.end.0 - w.hand.start.0} w.hand.rate.0 (omega arith), carries)
 
 -- The walk in the loop.
 pub record Walking (l : List VolumeSegment) (f : List VolumeSegment) (from hi n : ℕ) (w : Walk) : Type 0 where
@@ -188,18 +152,14 @@ pub record Walking (l : List VolumeSegment) (f : List VolumeSegment) (from hi n 
   pub sums : room_of f ≡ w.room.0 + room_of (drop w.i f)
   pub stands : Stands l w
   pub ahead : (g : VolumeSegment) → drop w.i f ≡ g ∷ drop (w.i + 1) f → w.low.0 ≤ g.start.0 → g.start.0 ≤ g.end.0
-      → (w.start.0 ≤ g.end.0) × (w.sum.0 ≡ capacity l g.start.0 w.start.0)
+      → (w.hand.start.0 ≤ g.end.0) × (w.sum.0 ≡ capacity l g.start.0 w.hand.start.0)
 
 -- what a turn's answer says
-abbrev pub Answer : List VolumeSegment → List VolumeSegment → ℕ → ℕ → ℕ → Walk → Taken → Type 0
-Answer l f from hi n w (Go k) = (Walking l f from hi n k) × ((n - k.i) + (segments_max - k.place) < (n - w.i) + (segments_max - w.place))
-Answer l f from hi n w No = list_ok l from hi f ≡ false
+abbrev pub Answer : List VolumeSegment → List VolumeSegment → ℕ → ℕ → ℕ → Walk → Option Walk → Type 0
+Answer l f from hi n w (Some k) = (Walking l f from hi n k) × ((n - k.i) + (segments_max - k.place) < (n - w.i) + (segments_max - w.place))
+Answer l f from hi n w None = list_ok l from hi f ≡ false
 
 module _ (l : List VolumeSegment) (f : List VolumeSegment) (from hi n : ℕ) (w : Walk) (q : Walking l f from hi n w) where
-  pub walk-ok : w.i < n → n ≤ listed_max → WalkOk w
-  walk-ok lt le =
-      record { forth = forth l w q.stands; small = q.small; few = q.few; listed = omega arith; carries = carries l w q.stands; bound = q.bound }
-
   pub walk_end : length f ≤ w.i → list_ok l from hi f ≡ true
   walk_end h =
       q.same ∙ ap (λ (x : List VolumeSegment). list_ok l w.low.0 hi x) (drop_of_length-le f h) ∙ list-none l w.low.0 hi
@@ -215,20 +175,20 @@ module _ (l : List VolumeSegment) (f : List VolumeSegment) (from hi n : ℕ) (w 
 
     module _ (h1 : w.low.0 ≤ g.start.0) (h2 : g.start.0 ≤ g.end.0) (h3 : g.end.0 ≤ hi) where
       -- the capacity found, up to the nearer of the two ends
-      found : (y : ℕ) → y ≡ min g.end.0 w.end.0 → found_of w g ≡ capacity l g.start.0 y
+      found : (y : ℕ) → y ≡ min g.end.0 w.hand.end.0 → found_of w g ≡ capacity l g.start.0 y
       found y e =
           let a = q.ahead g here h1 h2 in
-          let c = found-is l w q.stands g.start.0 g.end.0 (max g.start.0 w.start.0) (min g.end.0 w.end.0) refl refl a.0 h2 in
+          let c = found-is l w q.stands g.start.0 g.end.0 (max g.start.0 w.hand.start.0) (min g.end.0 w.hand.end.0) refl refl a.0 h2 in
           rw e (omega (arith, c, a.1))
 
-      go_on : length l ≤ segments_max → hi ≡ close_of 0 l → w.end.0 < g.end.0 → (w.place + 1 < length l → drop (w.place + 1) l ≡ s ∷ drop (w.place + 1 + 1) l)
-          → Answer l f from hi n w (Go (on_of w g s))
+      go_on : length l ≤ segments_max → hi ≡ close_of 0 l → w.hand.end.0 < g.end.0 → (w.place + 1 < length l → drop (w.place + 1) l ≡ s ∷ drop (w.place + 1 + 1) l)
+          → Answer l f from hi n w (Some (on_of w g s))
       go_on sixteen top h4 next =
           let more : w.place + 1 < length l = stands-more l w q.stands (omega arith) in
           let on = stands_on l w q.stands g s (next more) in
-          let at : s.start.0 ≡ w.end.0 = on.1 in
+          let at : s.start.0 ≡ w.hand.end.0 = on.1 in
           let fd : found_of w g ≡ capacity l g.start.0 s.start.0 = found s.start.0 (omega arith) in
-          let pc = piece-small l w q.stands (max g.start.0 w.start.0) (min g.end.0 w.end.0) (omega arith) (omega arith) in (
+          let pc = piece-small l w q.stands (max g.start.0 w.hand.start.0) (min g.end.0 w.hand.end.0) (omega arith) (omega arith) in (
             record {
               le = q.le;
               few = omega arith;
@@ -244,16 +204,16 @@ module _ (l : List VolumeSegment) (f : List VolumeSegment) (from hi n : ℕ) (w 
             omega (arith, q.few),
           )
 
-      go-short : g.end.0 ≤ w.end.0 → found_of w g < g.volume.0 → list_ok l from hi f ≡ false
+      go-short : g.end.0 ≤ w.hand.end.0 → found_of w g < g.volume.0 → list_ok l from hi f ≡ false
       go-short h4 h5 =
           let fd : found_of w g ≡ capacity l g.start.0 g.end.0 = found g.end.0 (omega arith) in
           refuse (segment-is l w.low.0 hi g h1 h2 h3 ∙ lt-leb _ _ (rw fd at h5))
 
-      go-done : g.end.0 ≤ w.end.0 → g.volume.0 ≤ found_of w g → Answer l f from hi n w (Go (done_of w g))
+      go-done : g.end.0 ≤ w.hand.end.0 → g.volume.0 ≤ found_of w g → Answer l f from hi n w (Some (done_of w g))
       go-done h4 h5 =
           let fd : found_of w g ≡ capacity l g.start.0 g.end.0 = found g.end.0 (omega arith) in
           let fits : segment_ok l w.low.0 hi g ≡ true = segment-is l w.low.0 hi g h1 h2 h3 ∙ le-leb _ _ (rw fd at h5) in
-          let pc = piece-small l w q.stands (max g.start.0 w.start.0) (min g.end.0 w.end.0) (omega arith) (omega arith) in
+          let pc = piece-small l w q.stands (max g.start.0 w.hand.start.0) (min g.end.0 w.hand.end.0) (omega arith) (omega arith) in
           let on : room_of (drop w.i f) ≡ g.volume.0 + room_of (drop (w.i + 1) f) = ap room_of here ∙ room_cons g _ in
           let a = q.ahead g here h1 h2 in (
             record {
@@ -274,12 +234,12 @@ module _ (l : List VolumeSegment) (f : List VolumeSegment) (from hi n : ℕ) (w 
                 last = q.stands.last;
                 past = q.stands.past;
               };
-              ahead = λ k e b c. (omega (arith, a.0), sym (capacity-none l k.start.0 w.start.0 (omega (arith, a.0))));
+              ahead = λ k e b c. (omega (arith, a.0), sym (capacity-none l k.start.0 w.hand.start.0 (omega (arith, a.0))));
             },
             omega (arith, q.few),
           )
 
-    walk_turn : length l ≤ segments_max → hi ≡ close_of 0 l → (w.place + 1 < length l → drop (w.place + 1) l ≡ s ∷ drop (w.place + 1 + 1) l)
+    pub walk_turn : length l ≤ segments_max → hi ≡ close_of 0 l → (w.place + 1 < length l → drop (w.place + 1) l ≡ s ∷ drop (w.place + 1 + 1) l)
         → Answer l f from hi n w (turn_of w g s hi)
     walk_turn sixteen top next =
         turn-cases w g s hi (Answer l f from hi n w)
@@ -358,9 +318,6 @@ stands-lt l w st =
     (λ (h : w.place < length l). h)
     (le-or-lt (length l) w.place)
 
-pub len_take : (rates : List VolumeSegment) (m : ℕ) → length (take m rates) ≤ m
-len_take rates m = simp length-take (omega arith)
-
 pub next-lt : (place m : ℕ) → place < m → next_of place m < m
 next-lt place m h =
     ⊎_elim
@@ -368,25 +325,9 @@ next-lt place m h =
     (λ (k : place + 1 < m). omega (arith, next-on place m k))
     (le-or-lt m (place + 1))
 
-pub after : (rates : List VolumeSegment) (m place : ℕ) (z : VolumeSegment) → m ≤ length rates → place + 1 < length (take m rates)
-    → drop (place + 1) (take m rates) ≡ get_or rates (next_of place m) z ∷ drop (place + 1 + 1) (take m rates)
-after rates m place z fit h =
-    let k : place + 1 < m = omega (arith, len_take rates m) in
-    rw (next-on place m k) (at_place rates m (place + 1) z fit k)
+pub after : (rates : List VolumeSegment) (place : ℕ) (z : VolumeSegment) → place + 1 < length rates
+    → drop (place + 1) rates ≡ get_or rates (next_of place (length rates)) z ∷ drop (place + 1 + 1) rates
+after rates place z h = rw (next-on place (length rates) h) (at-whole rates (place + 1) z h)
 
-pub seg-at : (rates : List VolumeSegment) (m p a : ℕ) (z : VolumeSegment) → m ≤ length rates → p < m → Run a (take m rates) → SegOk (get_or rates p z)
-seg-at rates m p a z fit h r = run_drop (take m rates) _ a p _ r (at_place rates m p z fit h)
-
--- the loop's own numbers beside the walk
-pub record Going (l : List VolumeSegment) (f : List VolumeSegment) (from hi n : ℕ) (w : Walk) (i j : ℕ) : Type 0 where
-  pub walking : Walking l f from hi n w
-  pub at_i : i ≡ w.i
-  pub at_j : j ≡ w.place
-
-pub loop-turn : (l : List VolumeSegment) (f : List VolumeSegment) (from hi n : ℕ) (w : Walk) (i j : ℕ) (g : VolumeSegment) (s : VolumeSegment) (r : Taken)
-    → Going l f from hi n w i j → i < n → drop i f ≡ g ∷ drop (i + 1) f → (j + 1 < length l → drop (j + 1) l ≡ s ∷ drop (j + 1 + 1) l)
-    → length l ≤ segments_max → hi ≡ close_of 0 l → r ≡ turn_of w g s hi → Answer l f from hi n w r
-loop-turn l f from hi n w i j g s r q lt here next sixteen top is =
-    let h : drop w.i f ≡ g ∷ drop (w.i + 1) f = rw q.at_i at here in
-    let k : w.place + 1 < length l → drop (w.place + 1) l ≡ s ∷ drop (w.place + 1 + 1) l = rw q.at_j at next in
-    rw is (walk_turn l f from hi n w q.walking (omega (arith, q.at_i)) g s h sixteen top k)
+pub seg-at : (rates : List VolumeSegment) (p a : ℕ) (z : VolumeSegment) → p < length rates → Run a rates → SegOk (get_or rates p z)
+seg-at rates p a z h r = run_drop rates _ a p _ r (at-whole rates p z h)

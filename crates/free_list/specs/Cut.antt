@@ -44,6 +44,10 @@ listed r = take r.count r.segments
 abbrev pub list_in : List VolumeSegment → FreeList
 list_in f = record { segments = padded listed_max zero_volume f; count = length f }
 
+-- the list that an array and a count make
+abbrev pub free_in : List VolumeSegment → ℕ → FreeList
+free_in segments count = record { segments = segments; count = count }
+
 -- what an opening lists: the whole window, with a volume
 abbrev pub whole_window : Interval → ℕ → VolumeSegment
 whole_window w total = record { start = w.start; end = w.end; volume = record { 0 = total } }

@@ -1,8 +1,9 @@
 // The test of a free list in one loop: each turn ends with a listed segment or moves on to the next rate segment, never back.
-ghost use Rattle.std.specs.Prelude.{◌≡◌, ◌-◌, ◌*◌, ◌≤◌, ◌<◌, min, max, eqb, take};
+ghost use Rattle.std.specs.Prelude.{◌≡◌, ◌-◌, ◌*◌, ◌≤◌, ◌<◌, min, max, eqb, length, Some, None};
 ghost use Rattle.units.specs.Limits.{date_max, segments_max, listed_max};
-ghost use Rattle.units.specs.Logic.{both};
+ghost use Rattle.units.specs.Logic.{both, pick};
 ghost use Rattle.segmentation.specs.Granted.{SegOk};
+ghost use Rattle.contact.specs.Segments.{rate_segment};
 ghost use Rattle.free_list.specs.Listed.{list_ok};
 ghost use Rattle.free_list.specs.Room.{room_of};
 ghost use Rattle.free_list.specs.Granted.{Window, WalkOk, start_of, turn_of, next_of};
@@ -10,8 +11,7 @@ ghost use Rattle.free_list.specs.Granted.{Window, WalkOk, start_of, turn_of, nex
 use segmentation::{RateSegment, VolumeSegment};
 use units::{Date, Interval, Rate, Volume};
 
-// The place in the free list, the least start allowed there, the room before it, the capacity found so far; the rate segment in hand.
-#[repr(C)]
+// The place in the free list, the least start allowed there, the room before it, the capacity found so far; the rate segment in hand, and its place.
 #[derive(Clone, Copy)]
 pub struct Walk {
     pub i: usize,
@@ -19,109 +19,86 @@ pub struct Walk {
     pub room: Volume,
     pub sum: Volume,
     pub place: usize,
-    pub start: Date,
-    pub end: Date,
-    pub rate: Rate,
+    pub hand: RateSegment,
 }
 
-#[derive(Clone, Copy)]
-pub enum Taken {
-    Go(Walk),
-    No,
-}
-
-// The walk at the first rate segment.
-pub fn begin(s: VolumeSegment, low: Date) -> Walk
+// The rate segment that a volume segment keeps: taken in hand, it is divided once.
+fn in_hand(s: VolumeSegment) -> RateSegment
     requires { SegOk s }
-    ensures { result ≡ start_of s low }
+    ensures { result ≡ rate_segment s }
 {
-    let start = s.start;
-    let end = s.end;
-    Walk {
-        i: 0,
-        low: low,
-        room: Volume(0),
-        sum: Volume(0),
-        place: 0,
-        start: start,
-        end: end,
+    RateSegment {
+        start: s.start,
+        end: s.end,
         rate: Rate(s.volume.0 / (s.end.0 - s.start.0)),
     }
 }
 
-// What the rate segment in hand carries between two dates.
-pub fn piece(w: Walk, a: Date, b: Date) -> Volume
-    requires { WalkOk w }
-    ensures { result.0 ≡ w.rate.0 * (min b.0 w.end.0 - max a.0 w.start.0) }
-{
-    let start = w.start;
-    let end = w.end;
-    let lo = units::later(a, start);
-    let hi = units::sooner(b, end);
-    if hi.0 <= lo.0 {
-        return Volume(0);
+impl Walk {
+    // The walk at the first rate segment.
+    pub fn begin(s: VolumeSegment, low: Date) -> Walk
+        requires { SegOk s }
+        ensures { result ≡ start_of s low }
+    {
+        Walk {
+            i: 0,
+            low,
+            room: Volume(0),
+            sum: Volume(0),
+            place: 0,
+            hand: in_hand(s),
+        }
     }
-    Volume(w.rate.0 * (hi.0 - lo.0))
+
+    // What the rate segment in hand carries between two dates. Not `VolumeSegment::part`, which divides at each call: the one in hand is divided once.
+    pub fn piece(self, a: Date, b: Date) -> Volume
+        requires { WalkOk self }
+        ensures { result.0 ≡ self.hand.rate.0 * (min b.0 self.hand.end.0 - max a.0 self.hand.start.0) }
+    {
+        let lo = units::later(a, self.hand.start);
+        let hi = units::sooner(b, self.hand.end);
+        if hi <= lo {
+            return Volume(0);
+        }
+        Volume(self.hand.rate.0 * (hi.0 - lo.0))
+    }
+
+    // One turn, with the listed segment at the walk's place and the rate segment after the one in hand: none where the list breaks its rules.
+    #[tactic(auto, unfolding(crate::specs::Granted::turn_of))]
+    pub fn turn(self, g: VolumeSegment, s: VolumeSegment, to: Date) -> Option<Walk>
+        requires walking { WalkOk self }
+        requires kept { SegOk s }
+        requires dated { to.0 ≤ date_max }
+        ensures { result ≡ turn_of self g s to.0 }
+    {
+        if g.start < self.low || g.end < g.start || to < g.end {
+            return None;
+        }
+        let more = self.piece(g.start, g.end);
+        let sum = Volume(self.sum.0 + more.0);
+        if self.hand.end < g.end {
+            return Some(Walk {
+                sum,
+                place: self.place + 1,
+                hand: in_hand(s),
+                ..self
+            });
+        }
+        if sum < g.volume {
+            return None;
+        }
+        Some(Walk {
+            i: self.i + 1,
+            low: Date(g.end.0 + 1),
+            room: Volume(self.room.0 + g.volume.0),
+            sum: Volume(0),
+            ..self
+        })
+    }
 }
 
-// One turn, with the listed segment at the walk's place and the rate segment after the one in hand.
-pub fn turn(w: Walk, g: VolumeSegment, s: VolumeSegment, to: Date) -> Taken
-    requires fact_1 { WalkOk w }
-    requires fact_2 { SegOk s }
-    requires fact_3 { to.0 ≤ date_max }
-    ensures { result ≡ turn_of w g s to.0 }
-{
-    let a = g.start;
-    let b = g.end;
-    let v = g.volume;
-    let i = w.i;
-    let low = w.low;
-    let room = w.room;
-    let place = w.place;
-    let start = w.start;
-    let end = w.end;
-    let rate = w.rate;
-    let c = s.start;
-    let d = s.end;
-    if a.0 < low.0 {
-        return Taken::No;
-    }
-    if b.0 < a.0 {
-        return Taken::No;
-    }
-    if to.0 < b.0 {
-        return Taken::No;
-    }
-    let more = piece(w, a, b);
-    let now = w.sum.0 + more.0;
-    if end.0 < b.0 {
-        return Taken::Go(Walk {
-            i: i,
-            low: low,
-            room: room,
-            sum: Volume(now),
-            place: place + 1,
-            start: c,
-            end: d,
-            rate: Rate(s.volume.0 / (s.end.0 - s.start.0)),
-        });
-    }
-    if now < v.0 {
-        return Taken::No;
-    }
-    Taken::Go(Walk {
-        i: i + 1,
-        low: Date(b.0 + 1),
-        room: Volume(room.0 + v.0),
-        sum: Volume(0),
-        place: place,
-        start: start,
-        end: end,
-        rate: rate,
-    })
-}
-
-// The place after, or the last one.
+// The place after, or the last one. Place and count: the public `next` promises `next_of` of them.
+#[tactic(auto, unfolding(crate::specs::Granted::next_of))]
 pub fn next(place: usize, m: usize) -> usize
     requires { place < m }
     ensures { result ≡ next_of place m }
@@ -130,39 +107,35 @@ pub fn next(place: usize, m: usize) -> usize
     if k < m { k } else { place }
 }
 
-// Does the free list keep its rules: in the window, in order, each volume within the exact capacity? And is the room its sum?
+// The room of a free list that keeps its rules: in the window, in order, each volume within the exact capacity; none of another.
+fn room_in(rates: &[VolumeSegment], free: &[VolumeSegment], window: Interval) -> Option<Volume>
+    requires some { 0 < length rates.now }
+    requires few { length rates.now ≤ segments_max }
+    requires short { length free.now ≤ listed_max }
+    requires windowed { Window rates.now window.start.0 window.end.0 }
+    ensures { result ≡ pick (list_ok rates.now window.start.0 window.end.0 free.now) (Some (record { 0 = room_of free.now })) None }
+{
+    let mut w = Walk::begin(rates[0], window.start);
+    // It stays no `for`, and the places stay the walk's: a turn goes on in one of the two lists, and which one it finds out itself (`turn`, `turn-unique`).
+    while let Some(g) = free.get(w.i) {
+        let s = rates[next(w.place, rates.len())];
+        w = w.turn(*g, s, window.end)?;
+    }
+    Some(w.room)
+}
+
+// Does the free list keep its rules? And is the room its sum?
 pub fn listed_ok(
-    rates: [VolumeSegment; RateSegment::COUNT_MAX],
-    m: usize,
-    free: [VolumeSegment; crate::FreeList::COUNT_MAX],
-    n: usize,
+    rates: &[VolumeSegment],
+    free: &[VolumeSegment],
     window: Interval,
     room: Volume,
 ) -> bool
-    requires fact_1 { (1 ≤ m) × (m ≤ segments_max) }
-    requires fact_2 { n ≤ listed_max }
-    requires fact_3 { Window (take m rates) window.start.0 window.end.0 }
-    ensures { result ≡ both (list_ok (take m rates) window.start.0 window.end.0 (take n free)) (eqb room.0 (room_of (take n free))) }
+    requires some { 0 < length rates.now }
+    requires few { length rates.now ≤ segments_max }
+    requires short { length free.now ≤ listed_max }
+    requires windowed { Window rates.now window.start.0 window.end.0 }
+    ensures { result ≡ both (list_ok rates.now window.start.0 window.end.0 free.now) (eqb room.0 (room_of free.now)) }
 {
-    let hi = window.end;
-    let low = window.start;
-    let first = rates[0];
-    let mut w = begin(first, low);
-    let mut i: usize = 0;
-    let mut j: usize = 0;
-    loop {
-        if n <= i {
-            let sum = w.room;
-            break room.0 == sum.0;
-        }
-        let g = free[i];
-        let p = next(j, m);
-        let s = rates[p];
-        let Taken::Go(k) = turn(w, g, s, hi) else {
-            break false;
-        };
-        w = k;
-        i = k.i;
-        j = k.place;
-    }
+    room_in(rates, free, window) == Some(room)
 }

@@ -13,51 +13,48 @@ use Rattle.pseg.specs.Book.{book_of as book_priority}
 use Rattle.poly_seg.specs.declared.Booked.{Booked as PolynomialBooked}
 use Rattle.poly_seg.specs.DryRun.{dry_run_of as dry_run_polynomial}
 use Rattle.poly_seg.specs.Book.{book_of as book_polynomial}
+use Rattle.legacy.specs.declared.Queue.{Queue as QueueRecord}
 use Rattle.legacy.specs.declared.Booked.{Booked as QueueBooked}
 use Rattle.legacy.specs.DryRun.{dry_run_of as dry_run_queue}
 use Rattle.legacy.specs.Book.{book_of as book_queue}
 use Rattle.legacy.specs.Queueing.{enqueue_of, dequeue_of}
-use Rattle.held.specs.declared.Kind.{Kind}
-use Rattle.held.specs.declared.Kind.TheVariants.{Nothing, Free, Priority, Polynomial, Queue}
 use Rattle.held.specs.declared.Held.{Held}
+use Rattle.held.specs.declared.Held.TheVariants.{Nothing, Free, Priority, Polynomial, Queue}
 use Rattle.held.specs.declared.Done.{Done}
-use Rattle.held.specs.State.{refused_call, kept_free, kept_priority, kept_polynomial, kept_queue}
-
-unfoldable pub dry_run_as : Kind → Held → Date → Bundle → Offer
-dry_run_as Nothing h at b = refused 1
-dry_run_as Free h at b = dry_run_free h.free at b
-dry_run_as Priority h at b = dry_run_priority h.priority at b
-dry_run_as Polynomial h at b = dry_run_polynomial h.polynomial at b
-dry_run_as Queue h at b = dry_run_queue h.queue at b
+use Rattle.held.specs.State.{refused_call, kept}
 
 -- frame 10's answer
-abbrev pub dry_run_held : Held → Date → Bundle → Offer
-dry_run_held h at b = dry_run_as h.kind h at b
-
-unfoldable pub book_as : Kind → Held → Date → Bundle → TxData → Done
-book_as Nothing h at b d = refused_call h 1
-book_as Free h at b d = let done : FreeBooked = book_free h.free at b d in kept_free h done.number done.manager
-book_as Priority h at b d = let done : PriorityBooked = book_priority h.priority at b d in kept_priority h done.number done.manager
-book_as Polynomial h at b d =
-    let done : PolynomialBooked = book_polynomial h.polynomial at b d in kept_polynomial h done.number done.manager
-book_as Queue h at b d = let done : QueueBooked = book_queue h.queue at b d in kept_queue h done.number done.manager
+unfoldable pub dry_run_held : Held → Date → Bundle → Offer
+dry_run_held Nothing at b = refused 1
+dry_run_held (Free r) at b = dry_run_free r at b
+dry_run_held (Priority r) at b = dry_run_priority r at b
+dry_run_held (Polynomial r) at b = dry_run_polynomial r at b
+dry_run_held (Queue r) at b = dry_run_queue r at b
 
 -- frame 11's
-abbrev pub book_held : Held → Date → Bundle → TxData → Done
-book_held h at b d = book_as h.kind h at b d
+unfoldable pub book_held : Held → Date → Bundle → TxData → Done
+book_held Nothing at b d = refused_call Nothing 1
+book_held (Free r) at b d =
+    let done : FreeBooked = book_free r at b d in kept (Free r) done.number (Free done.manager)
+book_held (Priority r) at b d =
+    let done : PriorityBooked = book_priority r at b d in kept (Priority r) done.number (Priority done.manager)
+book_held (Polynomial r) at b d =
+    let done : PolynomialBooked = book_polynomial r at b d in kept (Polynomial r) done.number (Polynomial done.manager)
+book_held (Queue r) at b d =
+    let done : QueueBooked = book_queue r at b d in kept (Queue r) done.number (Queue done.manager)
 
 -- a call that only the queue manager has
-unfoldable pub queueing_as : Kind → QueueBooked → Held → Done
-queueing_as Nothing done h = refused_call h 1
-queueing_as Free done h = refused_call h 12
-queueing_as Priority done h = refused_call h 12
-queueing_as Polynomial done h = refused_call h 12
-queueing_as Queue done h = kept_queue h done.number done.manager
+unfoldable pub queueing_held : (QueueRecord → QueueBooked) → Held → Done
+queueing_held call Nothing = refused_call Nothing 1
+queueing_held call (Free r) = refused_call (Free r) 12
+queueing_held call (Priority r) = refused_call (Priority r) 12
+queueing_held call (Polynomial r) = refused_call (Polynomial r) 12
+queueing_held call (Queue r) = let done : QueueBooked = call r in kept (Queue r) done.number (Queue done.manager)
 
 -- frame 13's
 abbrev pub enqueue_held : Held → Bundle → Done
-enqueue_held h b = queueing_as h.kind (enqueue_of h.queue b) h
+enqueue_held h b = queueing_held (λ (r : QueueRecord). enqueue_of r b) h
 
 -- frame 14's
 abbrev pub dequeue_held : Held → Bundle → Done
-dequeue_held h b = queueing_as h.kind (dequeue_of h.queue b) h
+dequeue_held h b = queueing_held (λ (r : QueueRecord). dequeue_of r b) h

@@ -1,42 +1,29 @@
-// The record that the trace program holds: one of any manager, or none. Its kind decides whose call is made.
+// The record that the trace program holds: one of any manager, or none. Whose record it is decides whose call is made.
 #![tactic(auto)]
 
-pub mod free;
-pub mod polynomial;
-pub mod priority;
-pub mod queue;
-
 ghost use Rattle.std.specs.Prelude.{◌≡◌};
-ghost use Rattle.held.specs.State.{nothing, refused_call};
-ghost use Rattle.held.specs.Calls.{dry_run_held, book_held, enqueue_held, dequeue_held};
+ghost use Rattle.held.specs.State.{nothing, refused_call, kept};
+ghost use Rattle.held.specs.Calls.{dry_run_held, book_held, queueing_held, enqueue_held, dequeue_held};
+ghost use Rattle.legacy.specs.declared.Queue.{Queue as QueueRecord};
+ghost use Rattle.legacy.specs.declared.Booked.{Booked as QueueBooked};
 
-use legacy::Queue;
+use legacy::{Booked, Queue};
 use poly_seg::PolySeg;
 use pseg::PrioritySeg;
 use seg::FreeVolume;
+use units::refusal::Refusal;
 use units::{Bundle, Date, Offer, TxData};
 
-// Whose record is held.
 #[derive(Clone, Copy)]
-pub enum Kind {
+pub enum Held {
     Nothing,
-    Free,
-    Priority,
-    Polynomial,
-    Queue,
+    Free(FreeVolume),
+    Priority(PrioritySeg),
+    Polynomial(PolySeg),
+    Queue(Queue),
 }
 
-// The record of the kind is the one held; the others are left from before, and nothing reads them.
-#[derive(Clone, Copy)]
-pub struct Held {
-    pub kind: Kind,
-    pub free: FreeVolume,
-    pub priority: PrioritySeg,
-    pub polynomial: PolySeg,
-    pub queue: Queue,
-}
-
-// A call's answer: 01's number, and what is held after it.
+// A call's answer: 01's number, and what is held after it. No Result: the definitions that docs/RULES.md names (`book_held`, `change_of`, `step_of`) answer the number and what is held after it, of a refusal too.
 #[derive(Clone, Copy)]
 pub struct Done {
     pub number: u8,
@@ -48,87 +35,80 @@ impl Held {
     pub fn nothing() -> Held
         ensures { result ≡ nothing }
     {
-        let free = free::empty();
-        let priority = priority::empty();
-        let polynomial = polynomial::empty();
-        let queue = queue::empty();
-        Held {
-            kind: Kind::Nothing,
-            free: free,
-            priority: priority,
-            polynomial: polynomial,
-            queue: queue,
-        }
+        Held::Nothing
     }
 
     // A call that changes nothing.
     pub fn refused(self, number: u8) -> Done
         ensures { result ≡ refused_call self number }
     {
-        Done {
-            number: number,
-            held: self,
-        }
+        Done { number, held: self }
     }
 
+    // What a call that is done leaves is held from then on; a refused call changes nothing.
+    #[tactic(auto, unfolding(crate::specs::State::kept))]
+    pub fn kept(self, number: u8, next: Held) -> Done
+        ensures { result ≡ kept self number next }
+    {
+        if number != 0 {
+            return self.refused(number);
+        }
+        Done { number, held: next }
+    }
+
+    #[tactic(auto, unfolding(crate::specs::Calls::dry_run_held))]
     pub fn dry_run(self, at: Date, bundle: Bundle) -> Offer
         ensures { result ≡ dry_run_held self at bundle }
     {
-        let kind = self.kind;
-        match kind {
-            Kind::Nothing => Offer::refused(units::refusal::RECORD),
-            Kind::Free => {
-                let r = self.free;
-                r.dry_run(at, bundle)
+        match self {
+            Held::Nothing => Offer::refused(Refusal::Record.number()),
+            Held::Free(r) => r.dry_run(at, bundle),
+            Held::Priority(r) => r.dry_run(at, bundle),
+            Held::Polynomial(r) => r.dry_run(at, bundle),
+            Held::Queue(r) => r.dry_run(at, bundle),
+        }
+    }
+
+    #[tactic(auto, unfolding(crate::specs::Calls::book_held))]
+    pub fn book(self, at: Date, bundle: Bundle, dates: TxData) -> Done
+        ensures { result ≡ book_held self at bundle dates }
+    {
+        match self {
+            Held::Nothing => self.refused(Refusal::Record.number()),
+            Held::Free(r) => {
+                let b = r.book(at, bundle, dates);
+                self.kept(b.number, Held::Free(b.manager))
             }
-            Kind::Priority => {
-                let r = self.priority;
-                r.dry_run(at, bundle)
+            Held::Priority(r) => {
+                let b = r.book(at, bundle, dates);
+                self.kept(b.number, Held::Priority(b.manager))
             }
-            Kind::Polynomial => {
-                let r = self.polynomial;
-                r.dry_run(at, bundle)
+            Held::Polynomial(r) => {
+                let b = r.book(at, bundle, dates);
+                self.kept(b.number, Held::Polynomial(b.manager))
             }
-            Kind::Queue => {
-                let r = self.queue;
-                r.dry_run(at, bundle)
+            Held::Queue(r) => {
+                let b = r.book(at, bundle, dates);
+                self.kept(b.number, Held::Queue(b.manager))
             }
         }
     }
 
-    pub fn book(self, at: Date, bundle: Bundle, dates: TxData) -> Done
-        ensures { result ≡ book_held self at bundle dates }
+    // A call that only the queue manager has.
+    #[tactic(auto, unfolding(crate::specs::Calls::queueing_held))]
+    fn queueing<F: FnOnce(Queue) -> Booked>(self, call: F) -> Done
+        requires { F.IsAlwaysCallable call }
+        ensures { (answer : QueueRecord → QueueBooked) → ((r : QueueRecord) (b : QueueBooked) → F.post call r b → b ≡ answer r)
+            → result ≡ queueing_held answer self }
     {
-        let kind = self.kind;
-        match kind {
-            Kind::Nothing => self.refused(units::refusal::RECORD),
-            Kind::Free => {
-                let r = self.free;
-                let b = r.book(at, bundle, dates);
-                let number = b.number;
-                let manager = b.manager;
-                free::kept(self, number, manager)
+        match self {
+            Held::Nothing => self.refused(Refusal::Record.number()),
+            Held::Queue(r) => {
+                let b = call(r);
+                self.kept(b.number, Held::Queue(b.manager))
             }
-            Kind::Priority => {
-                let r = self.priority;
-                let b = r.book(at, bundle, dates);
-                let number = b.number;
-                let manager = b.manager;
-                priority::kept(self, number, manager)
-            }
-            Kind::Polynomial => {
-                let r = self.polynomial;
-                let b = r.book(at, bundle, dates);
-                let number = b.number;
-                let manager = b.manager;
-                polynomial::kept(self, number, manager)
-            }
-            Kind::Queue => {
-                let r = self.queue;
-                let b = r.book(at, bundle, dates);
-                let number = b.number;
-                let manager = b.manager;
-                queue::kept(self, number, manager)
+            Held::Free(_) | Held::Priority(_) | Held::Polynomial(_) => {
+                self.refused(Refusal::SelfUpdate.number())
             }
         }
     }
@@ -136,38 +116,12 @@ impl Held {
     pub fn enqueue(self, bundle: Bundle) -> Done
         ensures { result ≡ enqueue_held self bundle }
     {
-        let kind = self.kind;
-        match kind {
-            Kind::Nothing => self.refused(units::refusal::RECORD),
-            Kind::Free => self.refused(units::refusal::SELF_UPDATE),
-            Kind::Priority => self.refused(units::refusal::SELF_UPDATE),
-            Kind::Polynomial => self.refused(units::refusal::SELF_UPDATE),
-            Kind::Queue => {
-                let r = self.queue;
-                let b = r.enqueue(bundle);
-                let number = b.number;
-                let manager = b.manager;
-                queue::kept(self, number, manager)
-            }
-        }
+        self.queueing(|r| r.enqueue(bundle))
     }
 
     pub fn dequeue(self, bundle: Bundle) -> Done
         ensures { result ≡ dequeue_held self bundle }
     {
-        let kind = self.kind;
-        match kind {
-            Kind::Nothing => self.refused(units::refusal::RECORD),
-            Kind::Free => self.refused(units::refusal::SELF_UPDATE),
-            Kind::Priority => self.refused(units::refusal::SELF_UPDATE),
-            Kind::Polynomial => self.refused(units::refusal::SELF_UPDATE),
-            Kind::Queue => {
-                let r = self.queue;
-                let b = r.dequeue(bundle);
-                let number = b.number;
-                let manager = b.manager;
-                queue::kept(self, number, manager)
-            }
-        }
+        self.queueing(|r| r.dequeue(bundle))
     }
 }

@@ -1,5 +1,5 @@
 -- The values of a number's digits: two a byte, 0 past the end, each below 16; folded they are the number.
-use Rattle.std.proofs.Common.{◌≡◌, ℕ, zero, suc, ◌+◌, ◌-◌, ◌*◌, ◌/◌, ◌^◌, ◌<◌, ◌≤◌, min, true, List, [], ◌∷◌, ◌++◌, map, length, get_or, take, drop, set, replicate, sym, refl, ap, ◌∙◌, pow-suc, arith, length-drop, length-take, get_or-drop, lt-ltb}
+use Rattle.std.proofs.Common.{◌≡◌, ℕ, zero, suc, ◌+◌, ◌-◌, ◌*◌, ◌/◌, ◌^◌, ◌<◌, ◌≤◌, min, true, List, [], ◌∷◌, ◌++◌, map, length, get_or, take, drop, set, replicate, sym, refl, ap, ◌∙◌, pow-suc, arith, length-take, lt-ltb}
 use lib.ListN.{length-map}
 use Rattle.units.specs.Logic.{all_of}
 use Rattle.units.specs.Arrays.{padded}
@@ -8,7 +8,7 @@ use Rattle.units.proofs.Loop.{at-whole}
 use Rattle.units.proofs.Arrays.{all_replicate, padded-none, padded-turn-map, length-padded}
 use Rattle.hexadecimal.specs.Digits.{value_of}
 use Rattle.hexadecimal.specs.Numbers.{word_at}
-use Rattle.hexadecimal.specs.Granted.{small, values_of, folded_of}
+use Rattle.hexadecimal.specs.Granted.{small, padded_values, values_of, folded_of}
 use Rattle.hexadecimal.proofs.Digits.{value-small}
 use Rattle.hexadecimal.proofs.Bytes.{byte_inside}
 use Rattle.hexadecimal.proofs.Numbers.{word_none, word-cons, word-past}
@@ -18,20 +18,17 @@ all-values : (l : List ℕ) (k : ℕ) → all_of small (map value_of l ++ replic
 all-values [] k = all_replicate small k 0 refl
 all-values (x ∷ l) k = all_go small (value_of x) _ (lt-ltb _ _ (value-small x)) ∙ all-values l k
 
-pub values-small : (line : List ℕ) (from n : ℕ) → all_of small (values_of line from n) ≡ true
+pub values_small : (digits : List ℕ) → all_of small (padded_values digits) ≡ true
 unfolding padded
-values-small line from n = let l = take n (drop from line) in all-values l (16 - length (map value_of l))
+values_small digits = all-values digits (16 - length (map value_of digits))
 
 -- a turn of a loop that reads value after value
-module _ (line : List ℕ) (from : ℕ) where
-  pub values-first : replicate 16 0 ≡ values_of line from 0
-  values-first = padded-none 16 0
+pub values_first : replicate 16 0 ≡ padded_values []
+values_first = padded-none 16 0
 
-  pub values-step : (i v : ℕ) (d : List ℕ) → i < 16 → from + i < length line → d ≡ values_of line from i → v ≡ value_of (get_or line (from + i) 0)
-      → set d i v ≡ values_of line from (i + 1)
-  values-step i v d h k e f =
-      let len : i < length (drop from line) = simp length-drop (omega arith) in
-      rw (e, f, ← get_or-drop from line i 0) (padded-turn-map 16 0 value_of (drop from line) i 0 h len)
+pub values_step : (digits : List ℕ) (i v : ℕ) (d : List ℕ) → i < length digits → length digits ≤ 16 → d ≡ padded_values (take i digits)
+    → v ≡ value_of (get_or digits i 0) → set d i v ≡ padded_values (take (i + 1) digits)
+values_step digits i v d h k e f = rw (e, f) (padded-turn-map 16 0 value_of digits i 0 (omega arith) h)
 
 -- zeros fold to 0
 folded-none : (n : ℕ) → folded_of (replicate n 0) ≡ 0

@@ -7,9 +7,13 @@ use Rattle.hexadecimal.specs.Digits.{value_of}
 abbrev pub small : ℕ → Bool
 small v = nat_lt v 16
 
+-- the values of digits, with zeros up to 16
+abbrev pub padded_values : List ℕ → List ℕ
+padded_values digits = padded 16 0 (map value_of digits)
+
 -- the values of n digits from a place on, with zeros up to 16
 abbrev pub values_of : List ℕ → ℕ → ℕ → List ℕ
-values_of line from n = padded 16 0 (map value_of (take n (drop from line)))
+values_of line from n = padded_values (take n (drop from line))
 
 -- digits as one number, the first the highest
 abbrev pub folded_of : List ℕ → ℕ

@@ -1,9 +1,8 @@
--- Each public call's promise determines its answer, and the record or the numbers that it leaves behind the references: two that meet it are equal. What the contract of a call to which a record is lent says in src/ is that promise, by computation; for the others `Post` is its reading.
-use Prim.Native.Nat.{ℕ, ◌*◌}
+-- Each public call's promise determines its answer, and the record or the parts of it that it leaves behind the references: two that meet it are equal. What the contract of a call to which a record is lent says in src/ is that promise, by computation; for the others `Post` is its reading.
+use Prim.Native.Nat.{ℕ}
 use mathlib.Core.Path.{◌≡◌, refl, sym, ap, ◌∙◌}
 use mathlib.Core.Bool.{Bool}
 use mathlib.Core.List.{List}
-use lib.ListN.{length}
 use seplogic.Ra.Ura.{Ura}
 use base.Logic.{SProp}
 use borrow.Fn.Kinds.{Dens, ended_of}
@@ -14,13 +13,9 @@ use contract.Lifetimes.{Lfts}
 use contract.Monad.{Fun, fact}
 use denote.Ref.{Bor, MutBor}
 use denote.Triple.Clauses.{AtExit}
-use Rattle.units.specs.Limits.{listed_max}
 use Rattle.units.proofs.Determined.{Determined}
-use Rattle.words.specs.Words.{volumes_in}
-use Rattle.words.proofs.Numbers.{same_numbers as same-volumes}
-use Rattle.words.proofs.Unique.{Leaves}
-use Rattle.booking_words.specs.Words.{bookings_in}
-use Rattle.booking_words.proofs.SetUnique.{same_numbers as same-bookings}
+use Rattle.segmentation.specs.declared.VolumeSegment.{VolumeSegment}
+use Rattle.bookings.specs.declared.BookingSegment.{BookingSegment}
 use Rattle.free_list.specs.Cut.{listed}
 use Rattle.free_list.specs.Room.{room_of}
 use Rattle.seg.specs.declared.FreeVolume.{FreeVolume}
@@ -49,8 +44,6 @@ use Rattle.legacy.specs.DryRun.{dry_run_of as queue_dry_run_of}
 use Rattle.legacy.specs.Book.{book_of as queue_book_of}
 use Rattle.legacy.specs.Queueing.{enqueue_of, dequeue_of}
 use Rattle.howrekano.specs.Words.{free_volume_in, priority_seg_in, polynome_in, poly_seg_in}
-use Rattle.howrekano.proofs.dates_at.Kinds as dates-at-kinds
-use Rattle.howrekano.proofs.dates_at.Reads as dates-at-reads
 use Rattle.howrekano.proofs.free.opened.Reads as free-opened-reads
 use Rattle.howrekano.specs.contracts.free.hk_free_open as free_open
 use Rattle.howrekano.specs.contracts.free.hk_free_ok as free-ok
@@ -127,10 +120,7 @@ polynomial-opened-unique x r q y z f g = f ∙ sym g
 pub queue-opened-unique : (x : QueueOpening) → Determined (queue-opened-reads.Post tt (x, tt))
 queue-opened-unique x r q y z f g = f ∙ sym g
 
--- lists lent as numbers
-pub dates-at-unique : (κs : Lfts 1) (a : Dens κs dates-at-kinds.ps) → Determined (dates-at-reads.Post κs a)
-dates-at-unique κs a r q x y f g = f ∙ sym g
-
+-- a record's parts lent
 module _ (κs : Lfts 4) where
   pub free-dry-run-kept-unique : (a : Dens κs free-dry-run-kept-kinds.ps) → Determined (free-dry-run-kept-reads.Post κs a)
   free-dry-run-kept-unique a r q x y f g = f ∙ sym g
@@ -141,14 +131,13 @@ module _ (κs : Lfts 4) where
   pub polynomial-dry-run-kept-unique : (a : Dens κs polynomial-dry-run-kept-kinds.ps) → Determined (polynomial-dry-run-kept-reads.Post κs a)
   polynomial-dry-run-kept-unique a r q x y f g = f ∙ sym g
 
--- a lent list that is changed, by a promise P: the record that the numbers make at exit, these numbers, as many as the array has, and their count
-module _ {D X : Type 0} (left : X → D) (behind : X → List ℕ) (count : X → ℕ) (P : X → Type 0) where
+-- a lent list that is changed, by a promise P: the record that the parts make at exit, the segments behind the reference, and their count
+module _ {D X S : Type 0} (left : X → D) (behind : X → List S) (count : X → ℕ) (P : X → Type 0) where
   abbrev AllLeft : Type 0
-  AllLeft = Determined (λ (m : D) (x : X). (m ≡ left x) × P x) × Determined (Leaves behind P) × Determined (λ (n : ℕ) (x : X). (n ≡ count x) × P x)
+  AllLeft = Determined (λ (m : D) (x : X). (m ≡ left x) × P x) × Determined (λ (l : List S) (x : X). (l ≡ behind x) × P x) × Determined (λ (n : ℕ) (x : X). (n ≡ count x) × P x)
 
-  -- the record's list is what the numbers make, and as many numbers that make the same segments are the same
-  module _ {S : Type 0} (made : List ℕ → List S) (same : (l k : List ℕ) → length l ≡ 3 * listed_max → length k ≡ 3 * listed_max → made l ≡ made k → l ≡ k)
-      (segments : D → List S) (many : D → ℕ) (lists : (x : X) → made (behind x) ≡ segments (left x)) (counts : (x : X) → count x ≡ many (left x))
+  -- they are the record's list
+  module _ (segments : D → List S) (many : D → ℕ) (lists : (x : X) → behind x ≡ segments (left x)) (counts : (x : X) → count x ≡ many (left x))
       (booked : D) (tells : (x : X) → P x → left x ≡ booked) where
     same_left : (x y : X) → P x → P y → left x ≡ left y
     same_left x y f g = tells x f ∙ sym (tells y g)
@@ -156,7 +145,7 @@ module _ {D X : Type 0} (left : X → D) (behind : X → List ℕ) (count : X �
     all_left : AllLeft
     all_left = (
       λ r q x y f g. f.0 ∙ same_left x y f.1 g.1 ∙ sym g.0,
-      λ r q x y f g. same r q f.1 g.1 (ap made f.0 ∙ lists x ∙ ap segments (same_left x y f.2 g.2) ∙ sym (ap made g.0 ∙ lists y)),
+      λ r q x y f g. f.0 ∙ lists x ∙ ap segments (same_left x y f.1 g.1) ∙ sym (g.0 ∙ lists y),
       λ r q x y f g. f.0 ∙ counts x ∙ ap many (same_left x y f.1 g.1) ∙ sym (g.0 ∙ counts y),
     )
 
@@ -165,20 +154,20 @@ module _ (κs : Lfts 7) (a : Dens κs free-book-kept-kinds.ps) where
   abbrev FreeExit : Type 0
   FreeExit = AtExit (ended_of 7 free-book-kept-kinds.ps free-book-kept-kinds.r) κs
 
-  abbrev free-numbers : FreeExit → List ℕ
-  free-numbers s = s.1.1.1.1.1.0.now
+  abbrev free-segments : FreeExit → List VolumeSegment
+  free-segments s = s.1.1.1.1.1.0.now
 
   abbrev free-count : FreeExit → ℕ
   free-count s = s.1.1.1.1.1.1.0.now
 
   abbrev free-left : FreeExit → FreeVolume
-  free-left s = free_volume_in a.1.1.1.1.1.1.1.1.1.1.1.0.now a.0 a.1.0.now a.1.1.0 a.1.1.1.0.now a.1.1.1.1.0 (free-numbers s) (free-count s)
+  free-left s = free_volume_in a.1.1.1.1.1.1.1.1.1.1.1.0.now a.0 a.1.0.now a.1.1.0 a.1.1.1.0.now a.1.1.1.1.0 (free-segments s) (free-count s)
 
   pub free-book-kept-unique : Determined (free-book-kept-reads.Post κs a)
   free-book-kept-unique r q x y f g = f.0 ∙ sym g.0
 
-  pub free-book-kept-left-unique : (k : ℕ) → AllLeft free-left free-numbers free-count (free-book-kept-reads.Post κs a k)
-  free-book-kept-left-unique k = all_left free-left free-numbers free-count _ volumes_in (λ l k. same-volumes l k listed_max) (λ m. m.free.segments) (λ m. m.free.count) (λ x. refl) (λ x. refl) _ (λ x p. p.1.0)
+  pub free-book-kept-left-unique : (k : ℕ) → AllLeft free-left free-segments free-count (free-book-kept-reads.Post κs a k)
+  free-book-kept-left-unique k = all_left free-left free-segments free-count _ (λ m. m.free.segments) (λ m. m.free.count) (λ x. refl) (λ x. refl) _ (λ x p. p.1.0)
 
   -- and the room that it leaves
   pub free-book-kept-room-unique : (k : ℕ) → Determined (λ (n : ℕ) (x : FreeExit). (n ≡ x.1.1.1.1.1.1.1.0.now) × free-book-kept-reads.Post κs a k x)
@@ -189,39 +178,39 @@ module _ (κs : Lfts 6) (a : Dens κs priority-book-kept-kinds.ps) where
   abbrev PriorityExit : Type 0
   PriorityExit = AtExit (ended_of 6 priority-book-kept-kinds.ps priority-book-kept-kinds.r) κs
 
-  abbrev priority-numbers : PriorityExit → List ℕ
-  priority-numbers s = s.1.1.1.1.1.0.now
+  abbrev priority-segments : PriorityExit → List BookingSegment
+  priority-segments s = s.1.1.1.1.1.0.now
 
   abbrev priority-count : PriorityExit → ℕ
   priority-count s = s.1.1.1.1.1.1.0.now
 
   abbrev priority-left : PriorityExit → PrioritySeg
-  priority-left s = priority_seg_in a.1.1.1.1.1.1.1.1.1.1.0.now a.0 a.1.0.now a.1.1.0 a.1.1.1.0.now a.1.1.1.1.0 (priority-numbers s) (priority-count s)
+  priority-left s = priority_seg_in a.1.1.1.1.1.1.1.1.1.1.0.now a.0 a.1.0.now a.1.1.0 a.1.1.1.0.now a.1.1.1.1.0 (priority-segments s) (priority-count s)
 
   pub priority-book-kept-unique : Determined (priority-book-kept-reads.Post κs a)
   priority-book-kept-unique r q x y f g = f.0 ∙ sym g.0
 
-  pub priority-book-kept-left-unique : (k : ℕ) → AllLeft priority-left priority-numbers priority-count (priority-book-kept-reads.Post κs a k)
-  priority-book-kept-left-unique k = all_left priority-left priority-numbers priority-count _ bookings_in (λ l k. same-bookings l k listed_max) (λ m. m.bookings.segments) (λ m. m.bookings.count) (λ x. refl) (λ x. refl) _ (λ x p. p.1)
+  pub priority-book-kept-left-unique : (k : ℕ) → AllLeft priority-left priority-segments priority-count (priority-book-kept-reads.Post κs a k)
+  priority-book-kept-left-unique k = all_left priority-left priority-segments priority-count _ (λ m. m.bookings.segments) (λ m. m.bookings.count) (λ x. refl) (λ x. refl) _ (λ x p. p.1)
 
 module _ (κs : Lfts 6) (a : Dens κs polynomial-book-kept-kinds.ps) where
   abbrev PolynomialExit : Type 0
   PolynomialExit = AtExit (ended_of 6 polynomial-book-kept-kinds.ps polynomial-book-kept-kinds.r) κs
 
-  abbrev polynomial-numbers : PolynomialExit → List ℕ
-  polynomial-numbers s = s.1.1.1.1.1.0.now
+  abbrev polynomial-segments : PolynomialExit → List VolumeSegment
+  polynomial-segments s = s.1.1.1.1.1.0.now
 
   abbrev polynomial-count : PolynomialExit → ℕ
   polynomial-count s = s.1.1.1.1.1.1.0.now
 
   abbrev polynomial-left : PolynomialExit → PolySeg
-  polynomial-left s = poly_seg_in a.1.1.1.1.1.1.1.1.1.1.0.now a.0 (polynome_in a.1.0.now a.1.1.0) a.1.1.1.0.now a.1.1.1.1.0 (polynomial-numbers s) (polynomial-count s)
+  polynomial-left s = poly_seg_in a.1.1.1.1.1.1.1.1.1.1.0.now a.0 (polynome_in a.1.0.now a.1.1.0) a.1.1.1.0.now a.1.1.1.1.0 (polynomial-segments s) (polynomial-count s)
 
   pub polynomial-book-kept-unique : Determined (polynomial-book-kept-reads.Post κs a)
   polynomial-book-kept-unique r q x y f g = f.0 ∙ sym g.0
 
-  pub polynomial-book-kept-left-unique : (k : ℕ) → AllLeft polynomial-left polynomial-numbers polynomial-count (polynomial-book-kept-reads.Post κs a k)
-  polynomial-book-kept-left-unique k = all_left polynomial-left polynomial-numbers polynomial-count _ volumes_in (λ l k. same-volumes l k listed_max) (λ m. m.free.segments) (λ m. m.free.count) (λ x. refl) (λ x. refl) _ (λ x p. p.1)
+  pub polynomial-book-kept-left-unique : (k : ℕ) → AllLeft polynomial-left polynomial-segments polynomial-count (polynomial-book-kept-reads.Post κs a k)
+  polynomial-book-kept-left-unique k = all_left polynomial-left polynomial-segments polynomial-count _ (λ m. m.free.segments) (λ m. m.free.count) (λ x. refl) (λ x. refl) _ (λ x p. p.1)
 
 -- a lent record that is asked: the answer
 abbrev pub Answered : {X : Type 0} → X → X → Type 0

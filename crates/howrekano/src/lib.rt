@@ -1,4 +1,5 @@
 // Every call of every manager on lent records, for Rust, and for C by the static library of howrekano_c. The total calls are thin ones over the managers' own calls by value.
+// Each manager has its own calls under its own names, and the kept ones take a record's parts one by one: the C interface.
 #![tactic(auto)]
 
 pub mod free;
@@ -6,12 +7,9 @@ pub mod polynomial;
 pub mod priority;
 pub mod queue;
 
-ghost use Rattle.std.specs.Prelude.{◌≡◌};
-ghost use Rattle.howrekano.specs.Words.{dates_in};
-
 use contact::Choices;
 use segmentation::{DelaySegment, RateSegment};
-use units::{Date, Interval, TxData};
+use units::Interval;
 
 // An opening's choices and figures.
 #[repr(C)]
@@ -23,20 +21,4 @@ pub struct Opening {
     pub rate_count: usize,
     pub delays: [DelaySegment; DelaySegment::COUNT_MAX],
     pub delay_count: usize,
-}
-
-// The four dates of these numbers.
-pub fn dates_at(dates: &[u64; 4]) -> TxData
-    ensures { result ≡ dates_in dates.now }
-{
-    TxData {
-        send: Interval {
-            start: Date(dates[0]),
-            end: Date(dates[1]),
-        },
-        recv: Interval {
-            start: Date(dates[2]),
-            end: Date(dates[3]),
-        },
-    }
 }

@@ -1,4 +1,4 @@
-// The polynomial manager from C or Rust: its record is lent, and no enum crosses. The calls whose names end in _kept test nothing, since whoever holds the record keeps its rules, and have its lists lent as numbers.
+// The polynomial manager from C or Rust: its record is lent, and no enum crosses. The calls whose names end in _kept test nothing, since whoever holds the record keeps its rules, and have its parts lent, so that nothing is copied.
 ghost use Rattle.std.specs.Prelude.{◌≡◌, true};
 ghost use Rattle.poly_seg.specs.Open.{open_of};
 ghost use Rattle.poly_seg.specs.Record.{record_ok};
@@ -6,15 +6,14 @@ ghost use Rattle.poly_seg.specs.DryRun.{dry_run_of};
 ghost use Rattle.poly_seg.specs.Book.{book_of};
 ghost use Rattle.poly_seg.specs.List.{list_of};
 ghost use Rattle.poly_seg.specs.Granted.{chosen_of};
-ghost use Rattle.howrekano.specs.Words.{polynome_in, poly_seg_in, dates_in};
+ghost use Rattle.howrekano.specs.Words.{polynome_in, poly_seg_in};
 
-use free_list::{Chosen, Found};
+use free_list::{Chosen, Fit, FreeList};
 use poly::Polynome;
 use poly_seg::{Choices, PolySeg};
-use poly_words::CHOICES;
-use segmentation::{DelaySegment, Edition};
+use segmentation::{DelaySegment, Edition, VolumeSegment};
+use units::refusal::Refusal;
 use units::{Bundle, Date, Interval, Offer, TxData, Volume};
-use words::{LISTED, SEGMENTS};
 
 // An opening's choices and figures.
 #[repr(C)]
@@ -31,12 +30,7 @@ pub struct PolynomialOpening {
 pub fn opened(x: PolynomialOpening) -> poly_seg::Opened
     ensures { result ≡ open_of x.choices x.window x.polynome x.delays x.delay_count }
 {
-    let choices = x.choices;
-    let window = x.window;
-    let polynome = x.polynome;
-    let delays = x.delays;
-    let delay_count = x.delay_count;
-    PolySeg::open(choices, window, polynome, delays, delay_count)
+    PolySeg::open(x.choices, x.window, x.polynome, x.delays, x.delay_count)
 }
 
 pub fn hk_polynomial_open(x: &PolynomialOpening) -> poly_seg::Opened
@@ -49,156 +43,136 @@ pub fn hk_polynomial_open(x: &PolynomialOpening) -> poly_seg::Opened
 pub fn hk_polynomial_ok(m: &PolySeg) -> bool
     ensures { result ≡ record_ok m.now }
 {
-    (*m).ok()
+    m.ok()
 }
 
 pub fn hk_polynomial_list(m: &PolySeg) -> poly_seg::Listing
     ensures { result ≡ list_of m.now }
 {
-    (*m).list()
+    m.list()
 }
 
 pub fn hk_polynomial_dry_run(m: &PolySeg, at: Date, bundle: Bundle) -> Offer
     ensures { result ≡ dry_run_of m.now at bundle }
 {
-    (*m).dry_run(at, bundle)
+    m.dry_run(at, bundle)
 }
 
 pub fn hk_polynomial_book(m: &mut PolySeg, at: Date, bundle: Bundle, dates: &TxData) -> u8
     ensures { (result ≡ (book_of m.old at bundle dates.now).number) × (m.new ≡ (book_of m.old at bundle dates.now).manager) }
 {
-    let done = (*m).book(at, bundle, *dates);
+    let done = m.book(at, bundle, *dates);
     *m = done.manager;
     done.number
 }
 
-// The polynomial of these numbers.
-fn polynome_at(coefficients: &[i64; 4], offset: Date) -> Polynome
-    ensures { result ≡ polynome_in coefficients.now offset }
-{
-    Polynome {
-        coefficients: *coefficients,
-        offset: offset,
-    }
-}
-
-// What a dry run finds on the record that these numbers make.
+// What a dry run finds on the record that these parts make.
+// Its parameters are the kept call's own, and its answer what `chosen_of` says, a refusal's number in the offer: a struct of lent parts for two callers is no plainer.
 fn chosen(
     window: Interval,
     polynome: Polynome,
-    delays: &[u64; SEGMENTS],
+    delays: &[DelaySegment; DelaySegment::COUNT_MAX],
     delay_count: usize,
-    free: &[u64; LISTED],
+    free: &[VolumeSegment; FreeList::COUNT_MAX],
     count: usize,
     at: Date,
     bundle: Bundle,
-    choices: &[u64; CHOICES],
+    choices: &Choices,
 ) -> Chosen
     requires { record_ok (poly_seg_in choices.now window polynome delays.now delay_count free.now count) ≡ true }
     ensures { result ≡ chosen_of (poly_seg_in choices.now window polynome delays.now delay_count free.now count) at bundle }
 {
     if !bundle.ok_at(at) {
-        return Chosen::refused(units::refusal::BUNDLE);
+        return Chosen::refused(Refusal::Bundle.number());
     }
-    let size = bundle.size;
-    let named = poly_words::choices_at(choices);
-    let mode = named.mode;
-    let terms = polynome.terms(mode, window);
-    let wanted = mode.wanted(size);
-    let Found::At { place, send } = poly_words::find_offer(window, terms, free, count, at, wanted)
-    else {
-        return Chosen::refused(units::refusal::NO_OFFER);
+    let terms = polynome.terms(choices.mode, window);
+    let size = choices.mode.wanted(bundle.size);
+    let Some(Fit { place, send }) = poly_seg::find_offer(terms, &free[..count], at, size) else {
+        return Chosen::refused(Refusal::NoOffer.number());
     };
-    let offer = words::answer_at(named.rule, delays, delay_count, send);
-    Chosen {
-        offer: offer,
-        place: place,
-    }
+    let found = segmentation::find_delays(choices.rule, &delays[..delay_count], send);
+    let offer = segmentation::answer(send, found);
+    Chosen { offer, place }
 }
 
+// Not by `chosen`, as the free-volume manager's.
 pub fn hk_polynomial_dry_run_kept(
     window: Interval,
-    coefficients: &[i64; 4],
+    coefficients: &[i64; Polynome::COEFFICIENTS],
     offset: Date,
-    delays: &[u64; SEGMENTS],
+    delays: &[DelaySegment; DelaySegment::COUNT_MAX],
     delay_count: usize,
-    free: &[u64; LISTED],
+    free: &[VolumeSegment; FreeList::COUNT_MAX],
     count: usize,
     at: Date,
     bundle: Bundle,
-    choices: &[u64; CHOICES],
+    choices: &Choices,
 ) -> Offer
     requires { record_ok (poly_seg_in choices.now window (polynome_in coefficients.now offset) delays.now delay_count free.now count) ≡ true }
     ensures { result ≡ dry_run_of (poly_seg_in choices.now window (polynome_in coefficients.now offset) delays.now delay_count free.now count) at bundle }
 {
-    let polynome = polynome_at(coefficients, offset);
     if !bundle.ok_at(at) {
-        return Offer::refused(units::refusal::BUNDLE);
+        return Offer::refused(Refusal::Bundle.number());
     }
-    let size = bundle.size;
-    let named = poly_words::choices_at(choices);
-    let mode = named.mode;
-    let terms = polynome.terms(mode, window);
-    let wanted = mode.wanted(size);
-    let Found::At { place: _, send } = poly_words::find_offer(
-        window, terms, free, count, at, wanted,
-    ) else {
-        return Offer::refused(units::refusal::NO_OFFER);
+    let polynome = Polynome {
+        coefficients: *coefficients,
+        offset,
     };
-    words::answer_at(named.rule, delays, delay_count, send)
+    let terms = polynome.terms(choices.mode, window);
+    let size = choices.mode.wanted(bundle.size);
+    let Some(fit) = poly_seg::find_offer(terms, &free[..count], at, size) else {
+        return Offer::refused(Refusal::NoOffer.number());
+    };
+    let found = segmentation::find_delays(choices.rule, &delays[..delay_count], fit.send);
+    segmentation::answer(fit.send, found)
 }
 
-// The list is cut where it stands. There are no rates: none of the numbers lent in their place is read, and the list has no room.
+// The list is cut where it stands. There are no rates, and the list has no room.
 pub fn hk_polynomial_book_kept(
     window: Interval,
-    coefficients: &[i64; 4],
+    coefficients: &[i64; Polynome::COEFFICIENTS],
     offset: Date,
-    delays: &[u64; SEGMENTS],
+    delays: &[DelaySegment; DelaySegment::COUNT_MAX],
     delay_count: usize,
-    free: &mut [u64; LISTED],
+    free: &mut [VolumeSegment; FreeList::COUNT_MAX],
     count: &mut usize,
     at: Date,
     bundle: Bundle,
-    dates: &[u64; 4],
-    choices: &[u64; CHOICES],
+    dates: &TxData,
+    choices: &Choices,
 ) -> u8
     requires { record_ok (poly_seg_in choices.now window (polynome_in coefficients.now offset) delays.now delay_count free.old count.old) ≡ true }
-    ensures fact_1 { result ≡ (book_of (poly_seg_in choices.now window (polynome_in coefficients.now offset) delays.now delay_count free.old count.old) at bundle (dates_in dates.now)).number }
-    ensures fact_2 { poly_seg_in choices.now window (polynome_in coefficients.now offset) delays.now delay_count free.new count.new ≡ (book_of (poly_seg_in choices.now window (polynome_in coefficients.now offset) delays.now delay_count free.old count.old) at bundle (dates_in dates.now)).manager }
+    ensures number { result ≡ (book_of (poly_seg_in choices.now window (polynome_in coefficients.now offset) delays.now delay_count free.old count.old) at bundle dates.now).number }
+    ensures manager { poly_seg_in choices.now window (polynome_in coefficients.now offset) delays.now delay_count free.new count.new ≡ (book_of (poly_seg_in choices.now window (polynome_in coefficients.now offset) delays.now delay_count free.old count.old) at bundle dates.now).manager }
 {
-    let n = *count;
-    let stated = crate::dates_at(dates);
-    let polynome = polynome_at(coefficients, offset);
-    let c = chosen(
+    let polynome = Polynome {
+        coefficients: *coefficients,
+        offset,
+    };
+    let found = chosen(
         window,
         polynome,
         delays,
         delay_count,
         free,
-        n,
+        *count,
         at,
         bundle,
         choices,
     );
-    let offer = c.offer;
-    let place = c.place;
-    let named = poly_words::choices_at(choices);
-    let number = offer.refusal(named.strict, stated);
-    if number != 0 {
-        return number;
+    if let Err(refusal) = found.offer.check(choices.strict, *dates) {
+        return refusal.number();
     }
-    let send = stated.send;
-    let mut none: u64 = 0;
-    let first = Edition(Edition::FIRST);
-    free_words::cut(
-        first,
-        place,
-        Volume(0),
-        delays,
-        0,
-        &mut none,
-        send,
+    match free_list::place::cut(
         free,
         count,
-    )
+        Edition(Edition::FIRST),
+        &[],
+        found.place,
+        dates.send,
+        Volume(0),
+    ) {
+        Ok(_) => 0,
+        Err(refusal) => refusal.number(),
+    }
 }

@@ -5,16 +5,17 @@ ghost use Rattle.seg.specs.Record.{record_ok};
 ghost use Rattle.seg.specs.DryRun.{dry_run_of};
 ghost use Rattle.seg.specs.Book.{book_of};
 ghost use Rattle.seg.specs.List.{list_of};
-ghost use Rattle.free_list.specs.Cut.{listed};
+ghost use Rattle.free_list.specs.Cut.{listed, free_in};
 ghost use Rattle.free_list.specs.Room.{room_of};
-ghost use Rattle.free_words.specs.Words.{free_in};
 ghost use Rattle.seg.specs.Room.{room_in, room_answer};
-ghost use Rattle.howrekano.specs.Words.{free_volume_in, dates_in};
+ghost use Rattle.howrekano.specs.Words.{free_volume_in};
 
+use contact::Choices;
+use free_list::FreeList;
 use howrekano::Opening;
 use seg::FreeVolume;
+use segmentation::{DelaySegment, RateSegment, VolumeSegment};
 use units::{Bundle, Date, Interval, Offer, TxData, Volume};
-use words::{CHOICES, LISTED, SEGMENTS};
 
 #[unsafe(no_mangle)]
 pub extern "C" fn hk_free_open(x: &Opening) -> seg::Opened
@@ -70,15 +71,15 @@ pub extern "C" fn hk_free_book(m: &mut FreeVolume, at: Date, bundle: Bundle, dat
 #[unsafe(no_mangle)]
 pub extern "C" fn hk_free_dry_run_kept(
     window: Interval,
-    rates: &[u64; SEGMENTS],
+    rates: &[VolumeSegment; RateSegment::COUNT_MAX],
     rate_count: usize,
-    delays: &[u64; SEGMENTS],
+    delays: &[DelaySegment; DelaySegment::COUNT_MAX],
     delay_count: usize,
-    free: &[u64; LISTED],
+    free: &[VolumeSegment; FreeList::COUNT_MAX],
     count: usize,
     at: Date,
     bundle: Bundle,
-    choices: &[u64; CHOICES],
+    choices: &Choices,
 ) -> Offer
     requires { record_ok (free_volume_in choices.now window rates.now rate_count delays.now delay_count free.now count) ≡ true }
     ensures { result ≡ dry_run_of (free_volume_in choices.now window rates.now rate_count delays.now delay_count free.now count) at bundle }
@@ -100,23 +101,23 @@ pub extern "C" fn hk_free_dry_run_kept(
 #[unsafe(no_mangle)]
 pub extern "C" fn hk_free_book_kept(
     window: Interval,
-    rates: &[u64; SEGMENTS],
+    rates: &[VolumeSegment; RateSegment::COUNT_MAX],
     rate_count: usize,
-    delays: &[u64; SEGMENTS],
+    delays: &[DelaySegment; DelaySegment::COUNT_MAX],
     delay_count: usize,
-    free: &mut [u64; LISTED],
+    free: &mut [VolumeSegment; FreeList::COUNT_MAX],
     count: &mut usize,
     room: &mut u64,
     at: Date,
     bundle: Bundle,
-    dates: &[u64; 4],
-    choices: &[u64; CHOICES],
+    dates: &TxData,
+    choices: &Choices,
 ) -> u8
-    requires fact_1 { record_ok (free_volume_in choices.now window rates.now rate_count delays.now delay_count free.old count.old) ≡ true }
-    requires fact_2 { room.old ≡ room_of (listed (free_in free.old count.old)) }
-    ensures fact_1 { result ≡ (book_of (free_volume_in choices.now window rates.now rate_count delays.now delay_count free.old count.old) at bundle (dates_in dates.now)).number }
-    ensures fact_2 { free_volume_in choices.now window rates.now rate_count delays.now delay_count free.new count.new ≡ (book_of (free_volume_in choices.now window rates.now rate_count delays.now delay_count free.old count.old) at bundle (dates_in dates.now)).manager }
-    ensures fact_3 { room.new ≡ room_of (listed (free_in free.new count.new)) }
+    requires kept { record_ok (free_volume_in choices.now window rates.now rate_count delays.now delay_count free.old count.old) ≡ true }
+    requires room { room.old ≡ room_of (listed (free_in free.old count.old)) }
+    ensures number { result ≡ (book_of (free_volume_in choices.now window rates.now rate_count delays.now delay_count free.old count.old) at bundle dates.now).number }
+    ensures manager { free_volume_in choices.now window rates.now rate_count delays.now delay_count free.new count.new ≡ (book_of (free_volume_in choices.now window rates.now rate_count delays.now delay_count free.old count.old) at bundle dates.now).manager }
+    ensures room { room.new ≡ room_of (listed (free_in free.new count.new)) }
 {
     howrekano::free::hk_free_book_kept(
         window,

@@ -5,13 +5,14 @@ ghost use Rattle.poly_seg.specs.Record.{record_ok};
 ghost use Rattle.poly_seg.specs.DryRun.{dry_run_of};
 ghost use Rattle.poly_seg.specs.Book.{book_of};
 ghost use Rattle.poly_seg.specs.List.{list_of};
-ghost use Rattle.howrekano.specs.Words.{polynome_in, poly_seg_in, dates_in};
+ghost use Rattle.howrekano.specs.Words.{polynome_in, poly_seg_in};
 
+use free_list::FreeList;
 use howrekano::polynomial::PolynomialOpening;
-use poly_seg::PolySeg;
-use poly_words::CHOICES;
+use poly::Polynome;
+use poly_seg::{Choices, PolySeg};
+use segmentation::{DelaySegment, VolumeSegment};
 use units::{Bundle, Date, Interval, Offer, TxData};
-use words::{LISTED, SEGMENTS};
 
 #[unsafe(no_mangle)]
 pub extern "C" fn hk_polynomial_open(x: &PolynomialOpening) -> poly_seg::Opened
@@ -57,15 +58,15 @@ pub extern "C" fn hk_polynomial_book(
 #[unsafe(no_mangle)]
 pub extern "C" fn hk_polynomial_dry_run_kept(
     window: Interval,
-    coefficients: &[i64; 4],
+    coefficients: &[i64; Polynome::COEFFICIENTS],
     offset: Date,
-    delays: &[u64; SEGMENTS],
+    delays: &[DelaySegment; DelaySegment::COUNT_MAX],
     delay_count: usize,
-    free: &[u64; LISTED],
+    free: &[VolumeSegment; FreeList::COUNT_MAX],
     count: usize,
     at: Date,
     bundle: Bundle,
-    choices: &[u64; CHOICES],
+    choices: &Choices,
 ) -> Offer
     requires { record_ok (poly_seg_in choices.now window (polynome_in coefficients.now offset) delays.now delay_count free.now count) ≡ true }
     ensures { result ≡ dry_run_of (poly_seg_in choices.now window (polynome_in coefficients.now offset) delays.now delay_count free.now count) at bundle }
@@ -84,24 +85,24 @@ pub extern "C" fn hk_polynomial_dry_run_kept(
     )
 }
 
-// The list is cut where it stands. There are no rates: none of the numbers lent in their place is read, and the list has no room.
+// The list is cut where it stands. There are no rates, and the list has no room.
 #[unsafe(no_mangle)]
 pub extern "C" fn hk_polynomial_book_kept(
     window: Interval,
-    coefficients: &[i64; 4],
+    coefficients: &[i64; Polynome::COEFFICIENTS],
     offset: Date,
-    delays: &[u64; SEGMENTS],
+    delays: &[DelaySegment; DelaySegment::COUNT_MAX],
     delay_count: usize,
-    free: &mut [u64; LISTED],
+    free: &mut [VolumeSegment; FreeList::COUNT_MAX],
     count: &mut usize,
     at: Date,
     bundle: Bundle,
-    dates: &[u64; 4],
-    choices: &[u64; CHOICES],
+    dates: &TxData,
+    choices: &Choices,
 ) -> u8
     requires { record_ok (poly_seg_in choices.now window (polynome_in coefficients.now offset) delays.now delay_count free.old count.old) ≡ true }
-    ensures fact_1 { result ≡ (book_of (poly_seg_in choices.now window (polynome_in coefficients.now offset) delays.now delay_count free.old count.old) at bundle (dates_in dates.now)).number }
-    ensures fact_2 { poly_seg_in choices.now window (polynome_in coefficients.now offset) delays.now delay_count free.new count.new ≡ (book_of (poly_seg_in choices.now window (polynome_in coefficients.now offset) delays.now delay_count free.old count.old) at bundle (dates_in dates.now)).manager }
+    ensures number { result ≡ (book_of (poly_seg_in choices.now window (polynome_in coefficients.now offset) delays.now delay_count free.old count.old) at bundle dates.now).number }
+    ensures manager { poly_seg_in choices.now window (polynome_in coefficients.now offset) delays.now delay_count free.new count.new ≡ (book_of (poly_seg_in choices.now window (polynome_in coefficients.now offset) delays.now delay_count free.old count.old) at bundle dates.now).manager }
 {
     howrekano::polynomial::hk_polynomial_book_kept(
         window,

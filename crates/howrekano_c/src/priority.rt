@@ -5,12 +5,14 @@ ghost use Rattle.pseg.specs.Record.{record_ok};
 ghost use Rattle.pseg.specs.DryRun.{dry_run_of};
 ghost use Rattle.pseg.specs.Book.{book_of};
 ghost use Rattle.pseg.specs.List.{list_of};
-ghost use Rattle.howrekano.specs.Words.{priority_seg_in, dates_in};
+ghost use Rattle.howrekano.specs.Words.{priority_seg_in};
 
+use bookings::{BookingSegment, Bookings};
+use contact::Choices;
 use howrekano::Opening;
 use pseg::PrioritySeg;
+use segmentation::{DelaySegment, RateSegment, VolumeSegment};
 use units::{Bundle, Date, Interval, Offer, TxData};
-use words::{CHOICES, LISTED, SEGMENTS};
 
 #[unsafe(no_mangle)]
 pub extern "C" fn hk_priority_open(x: &Opening) -> pseg::Opened
@@ -56,15 +58,15 @@ pub extern "C" fn hk_priority_book(
 #[unsafe(no_mangle)]
 pub extern "C" fn hk_priority_dry_run_kept(
     window: Interval,
-    rates: &[u64; SEGMENTS],
+    rates: &[VolumeSegment; RateSegment::COUNT_MAX],
     rate_count: usize,
-    delays: &[u64; SEGMENTS],
+    delays: &[DelaySegment; DelaySegment::COUNT_MAX],
     delay_count: usize,
-    bookings: &[u64; LISTED],
+    bookings: &[BookingSegment; Bookings::COUNT_MAX],
     count: usize,
     at: Date,
     bundle: Bundle,
-    choices: &[u64; CHOICES],
+    choices: &Choices,
 ) -> Offer
     requires { record_ok (priority_seg_in choices.now window rates.now rate_count delays.now delay_count bookings.now count) ≡ true }
     ensures { result ≡ dry_run_of (priority_seg_in choices.now window rates.now rate_count delays.now delay_count bookings.now count) at bundle }
@@ -87,20 +89,20 @@ pub extern "C" fn hk_priority_dry_run_kept(
 #[unsafe(no_mangle)]
 pub extern "C" fn hk_priority_book_kept(
     window: Interval,
-    rates: &[u64; SEGMENTS],
+    rates: &[VolumeSegment; RateSegment::COUNT_MAX],
     rate_count: usize,
-    delays: &[u64; SEGMENTS],
+    delays: &[DelaySegment; DelaySegment::COUNT_MAX],
     delay_count: usize,
-    bookings: &mut [u64; LISTED],
+    bookings: &mut [BookingSegment; Bookings::COUNT_MAX],
     count: &mut usize,
     at: Date,
     bundle: Bundle,
-    dates: &[u64; 4],
-    choices: &[u64; CHOICES],
+    dates: &TxData,
+    choices: &Choices,
 ) -> u8
     requires { record_ok (priority_seg_in choices.now window rates.now rate_count delays.now delay_count bookings.old count.old) ≡ true }
-    ensures fact_1 { result ≡ (book_of (priority_seg_in choices.now window rates.now rate_count delays.now delay_count bookings.old count.old) at bundle (dates_in dates.now)).number }
-    ensures fact_2 { priority_seg_in choices.now window rates.now rate_count delays.now delay_count bookings.new count.new ≡ (book_of (priority_seg_in choices.now window rates.now rate_count delays.now delay_count bookings.old count.old) at bundle (dates_in dates.now)).manager }
+    ensures number { result ≡ (book_of (priority_seg_in choices.now window rates.now rate_count delays.now delay_count bookings.old count.old) at bundle dates.now).number }
+    ensures manager { priority_seg_in choices.now window rates.now rate_count delays.now delay_count bookings.new count.new ≡ (book_of (priority_seg_in choices.now window rates.now rate_count delays.now delay_count bookings.old count.old) at bundle dates.now).manager }
 {
     howrekano::priority::hk_priority_book_kept(
         window,

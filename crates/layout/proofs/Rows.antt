@@ -5,7 +5,8 @@ use mathlib.Core.List.{List, [], ◌∷◌, ◌++◌, append-nil}
 use native.Mathlib.Nat.{sub_self}
 use native.Mathlib.Numerals.{add-one}
 use native.Mathlib.Omega.{arith}
-use lib.ListN.{length, set, replicate}
+use Rattle.std.proofs.lemmas.List.{take-replicate, drop-replicate}
+use lib.ListN.{take, drop, length, set, replicate}
 use Rattle.units.specs.Arrays.{padded}
 use Rattle.units.proofs.Arrays.{padded-none, padded-store}
 use Rattle.layout.specs.Segments.{rows}
@@ -23,31 +24,24 @@ module _ {A : Type 0} (f : ℕ → A) (step : ℕ) where
       let e : at + step * suc n ≡ at + step + step * n = omega arith in
       rw e (ap (λ (l : List A). f at ∷ l) (rows_more (at + step) n))
 
--- of n rows the first i are in the array of m places, and z is past them
-pub record Filled {A : Type 0} (f : ℕ → A) (step m : ℕ) (z : A) (at n i : ℕ) (a : List A) : Type 0 where
-  pub low : i ≤ n
-  pub holds : a ≡ padded m z (rows f step at i)
-
-module _ {A : Type 0} {f : ℕ → A} {step m : ℕ} {z : A} {at n : ℕ} where
-  pub filled_none : Filled f step m z at n 0 (replicate m z)
+-- the first i rows are in a list of m places, and z is past them
+module _ {A : Type 0} (f : ℕ → A) (step : ℕ) (z : A) (at : ℕ) where
+  pub filled_none : (n m : ℕ) (d : A) → n ≤ m → d ≡ z → take n (replicate m d) ≡ padded n z (rows f step at 0)
   unfolding rows
-  filled_none = record { low = omega arith; holds = padded-none m z }
+  filled_none n m d h e = rw (e, take-replicate n m z h) (padded-none n z)
 
-  pub filled-turn : {i : ℕ} {a : List A} {x : A} → Filled f step m z at n i a → i < n → n ≤ m → x ≡ f (at + step * i)
-      → Filled f step m z at n (i + 1) (set a i x)
-  filled-turn {i} q h k e =
-      record {
-        low = omega arith;
-        holds =
-            rw (q.holds, e, add-one i, rows_more f step at i)
-            (padded-store m z (rows f step at i) (f (at + step * i)) i (length-rows f step at i) (omega arith));
-      }
+  pub filled-turn : (m i : ℕ) (a : List A) (x : A) → a ≡ padded m z (rows f step at i) → i < m → x ≡ f (at + step * i)
+      → set a i x ≡ padded m z (rows f step at (i + 1))
+  filled-turn m i a x q h e =
+      rw (q, e, add-one i, rows_more f step at i)
+      (padded-store m z (rows f step at i) (f (at + step * i)) i (length-rows f step at i) h)
 
-  -- the loop is past k rows
-  pub filled-all : {i k : ℕ} {a : List A} → Filled f step m z at n i a → i ≡ k → a ≡ padded m z (rows f step at k)
-  filled-all q e = q.holds ∙ ap (λ (j : ℕ). padded m z (rows f step at j)) e
-
-  -- and they fill the array
-  pub filled-whole : {i : ℕ} {a : List A} → Filled f step m z at n i a → i ≡ m → a ≡ rows f step at m
+  -- the rows fill the list
+  pub filled-whole : (m : ℕ) → padded m z (rows f step at m) ≡ rows f step at m
   unfolding padded
-  filled-whole q e = filled-all q e ∙ rw (length-rows f step at m, sub_self m) (append-nil _)
+  filled-whole m = rw (length-rows f step at m, sub_self m) (append-nil _)
+
+  -- and with what was past it they are the array's
+  pub filled-array : (m n : ℕ) (a : List A) (d : A) → a ≡ padded n z (rows f step at n) → d ≡ z → a ++ drop n (replicate m d) ≡ padded m z (rows f step at n)
+  unfolding padded
+  filled-array m n a d q e = rw (q ∙ filled-whole n, e, drop-replicate n m z, length-rows f step at n)

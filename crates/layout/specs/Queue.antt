@@ -14,9 +14,15 @@ use Rattle.layout.specs.Segments.{rows}
 unfoldable pub flags_of : ℕ → Flags
 flags_of n = record { add_delay = eqb (n % 2) 1; self_update = eqb (n / 2 % 2) 1; budgeted = eqb (n / 4 % 2) 1 }
 
+abbrev pub budget_at : List ℕ → ℕ → Volume
+budget_at line at = record { 0 = number_at line at }
+
+abbrev pub no_budget : Volume
+no_budget = record { 0 = 0 }
+
 -- 8 budgets of 8 bytes
 unfoldable pub budgets_at : List ℕ → ℕ → List Volume
-budgets_at line at = rows (λ (p : ℕ). record { 0 = number_at line p }) 8 at classes_max
+budgets_at line at = rows (budget_at line) 8 at classes_max
 
 -- a line of 99 bytes, its flags at most 7
 unfoldable pub is_queue : List ℕ → Bool

@@ -1,17 +1,17 @@
 // Frames 01 and 02: start, end, rate count, delay count, the rate segments, the delay segments; 21 and 22: and the rule.
-ghost use Rattle.std.specs.Prelude.{◌≡◌, ◌<◌, ◌^◌, min};
-ghost use Rattle.units.specs.Limits.{segments_max};
+ghost use Rattle.std.specs.Prelude.{◌≡◌, ◌<◌, ◌^◌};
 ghost use Rattle.layout.specs.Fields.{has_bytes};
-ghost use Rattle.layout.specs.Segments.{rate_at, delay_at, rates_at, delays_at};
+ghost use Rattle.layout.specs.Segments.{rates_at, delays_at};
 ghost use Rattle.layout.specs.Opening.{opening_end, opening_length, opening_of};
 
-use crate::{count_at, date_at, interval_at, rule};
+use crate::row::rows_at;
+use crate::{count_at, interval_at, rule};
 use segmentation::{DelaySegment, RateSegment, Rule};
-use units::{Date, Delay, Interval, Rate};
+use units::Interval;
 
-// What an opening with segments is given.
+// What an opening with segments is given. Arrays with their counts, as the managers' openings, which C calls, take them: they refuse a count that is too high.
 #[repr(C)]
-#[derive(Clone, Copy)]
+#[derive(Clone, Copy, PartialEq, Eq, Default)]
 pub struct Opening {
     pub rule: Rule,
     pub window: Interval,
@@ -21,116 +21,50 @@ pub struct Opening {
     pub delay_count: usize,
 }
 
-fn rate_at(line: &[u8], at: usize) -> RateSegment
-    requires { at < 2 ^ 61 }
-    ensures { result ≡ rate_at line.now at }
-{
-    let start = date_at(line, at);
-    let end = date_at(line, at + 8);
-    let rate = hexadecimal::number_at(line, at + 16);
-    RateSegment {
-        start: start,
-        end: end,
-        rate: Rate(rate),
-    }
-}
-
-fn delay_at(line: &[u8], at: usize) -> DelaySegment
-    requires { at < 2 ^ 61 }
-    ensures { result ≡ delay_at line.now at }
-{
-    let start = date_at(line, at);
-    let end = date_at(line, at + 8);
-    let delay = hexadecimal::number_at(line, at + 16);
-    DelaySegment {
-        start: start,
-        end: end,
-        delay: Delay(delay),
-    }
-}
-
-// As many as an opening is given places for; it refuses a higher count.
-fn kept(n: usize) -> usize
-    ensures { result ≡ min segments_max n }
-{
-    if n < Interval::SEGMENTS_MAX {
-        n
-    } else {
-        Interval::SEGMENTS_MAX
-    }
-}
-
+// The rate segments from a place on; of more than there are places for the first, since the opening refuses the count.
+#[tactic(auto, unfolding(crate::specs::Segments::rates_at))]
 pub fn rates_at(line: &[u8], at: usize, n: usize) -> [RateSegment; RateSegment::COUNT_MAX]
     requires { at < 2 ^ 60 }
     ensures { result ≡ rates_at line.now at n }
 {
-    let none = RateSegment {
-        start: Date(0),
-        end: Date(0),
-        rate: Rate(0),
-    };
-    let few = kept(n);
-    let mut rates = [none; RateSegment::COUNT_MAX];
-    let mut i = 0;
-    while i < few {
-        let s = rate_at(line, at + 24 * i);
-        rates[i] = s;
-        i += 1;
-    }
-    rates
+    rows_at(line, at, n)
 }
 
+// The delay segments, likewise.
+#[tactic(auto, unfolding(crate::specs::Segments::delays_at))]
 pub fn delays_at(line: &[u8], at: usize, n: usize) -> [DelaySegment; DelaySegment::COUNT_MAX]
     requires { at < 2 ^ 60 }
     ensures { result ≡ delays_at line.now at n }
 {
-    let none = DelaySegment {
-        start: Date(0),
-        end: Date(0),
-        delay: Delay(0),
-    };
-    let few = kept(n);
-    let mut delays = [none; DelaySegment::COUNT_MAX];
-    let mut i = 0;
-    while i < few {
-        let s = delay_at(line, at + 24 * i);
-        delays[i] = s;
-        i += 1;
-    }
-    delays
+    rows_at(line, at, n)
 }
 
 // Where the segments end, as the counts ask.
 fn end(line: &[u8]) -> usize
     ensures { (result ≡ opening_end line.now) × (result < 2 ^ 61) }
 {
-    let m = count_at(line, 17);
-    let n = count_at(line, 18);
-    19 + 24 * (m + n)
+    19 + 24 * (count_at(line, 17) + count_at(line, 18))
 }
 
-// Is the line as long as its counts and its kind ask?
+// Is the line as long as its counts and its kind ask? As the polynomial's, over its own `end`: a trait would be longer than the two lines.
 pub fn fits(line: &[u8]) -> bool
     ensures { result ≡ has_bytes line.now (opening_length line.now) }
 {
-    crate::has(line, rule::length(line, end(line)))
+    rule::fits(line, end(line))
 }
 
+#[tactic(auto, unfolding(crate::specs::Opening::opening_of))]
 pub fn read(line: &[u8]) -> Opening
     ensures { result ≡ opening_of line.now }
 {
-    let window = interval_at(line, 1);
-    let m = count_at(line, 17);
-    let n = count_at(line, 18);
-    let rates = rates_at(line, 19, m);
-    let delays = delays_at(line, 19 + 24 * m, n);
-    let stated = rule::at(line, end(line));
+    let rate_count = count_at(line, 17);
+    let delay_count = count_at(line, 18);
     Opening {
-        rule: stated,
-        window: window,
-        rates: rates,
-        rate_count: m,
-        delays: delays,
-        delay_count: n,
+        rule: rule::at(line, end(line)),
+        window: interval_at(line, 1),
+        rates: rates_at(line, 19, rate_count),
+        rate_count,
+        delays: delays_at(line, 19 + 24 * rate_count, delay_count),
+        delay_count,
     }
 }

@@ -5,13 +5,14 @@ ghost use Rattle.layout.specs.Polynomial.{polynome_of, polynomial_end, polynomia
 
 use crate::opening::delays_at;
 use crate::{count_at, date_at, interval_at, rule};
+use hexadecimal::signed_at;
 use poly::Polynome;
 use segmentation::{DelaySegment, Rule};
 use units::Interval;
 
-// What the polynomial manager's opening is given.
+// What the polynomial manager's opening is given, which C calls: an array with its count.
 #[repr(C)]
-#[derive(Clone, Copy)]
+#[derive(Clone, Copy, PartialEq, Eq, Default)]
 pub struct PolynomialOpening {
     pub rule: Rule,
     pub window: Interval,
@@ -31,37 +32,33 @@ fn end(line: &[u8]) -> usize
 pub fn fits(line: &[u8]) -> bool
     ensures { result ≡ has_bytes line.now (polynomial_length line.now) }
 {
-    crate::has(line, rule::length(line, end(line)))
+    rule::fits(line, end(line))
 }
 
 fn polynome(line: &[u8]) -> Polynome
     ensures { result ≡ polynome_of line.now }
 {
-    let offset = date_at(line, 17);
-    let c0 = hexadecimal::signed_at(line, 25);
-    let c1 = hexadecimal::signed_at(line, 33);
-    let c2 = hexadecimal::signed_at(line, 41);
-    let c3 = hexadecimal::signed_at(line, 49);
-    let coefficients = [c0, c1, c2, c3];
     Polynome {
-        coefficients: coefficients,
-        offset: offset,
+        coefficients: [
+            signed_at(line, 25),
+            signed_at(line, 33),
+            signed_at(line, 41),
+            signed_at(line, 49),
+        ],
+        offset: date_at(line, 17),
     }
 }
 
+#[tactic(auto, unfolding(crate::specs::Polynomial::polynomial_of))]
 pub fn read(line: &[u8]) -> PolynomialOpening
     ensures { result ≡ polynomial_of line.now }
 {
-    let window = interval_at(line, 1);
-    let p = polynome(line);
-    let n = count_at(line, 57);
-    let delays = delays_at(line, 58, n);
-    let stated = rule::at(line, end(line));
+    let delay_count = count_at(line, 57);
     PolynomialOpening {
-        rule: stated,
-        window: window,
-        polynome: p,
-        delays: delays,
-        delay_count: n,
+        rule: rule::at(line, end(line)),
+        window: interval_at(line, 1),
+        polynome: polynome(line),
+        delays: delays_at(line, 58, delay_count),
+        delay_count,
     }
 }

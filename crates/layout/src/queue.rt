@@ -2,13 +2,15 @@
 ghost use Rattle.std.specs.Prelude.{◌≡◌};
 ghost use Rattle.layout.specs.Queue.{flags_of, budgets_at, is_queue, queue_of};
 
+use crate::row::rows_at;
 use crate::{count_at, interval_at};
+use hexadecimal::number_at;
 use legacy::{Flags, Queue};
 use units::{Delay, Interval, Rate, Volume};
 
-// What the queue manager's opening is given.
+// What the queue manager's opening is given, which C calls: eight budgets, of which as many count as there are classes.
 #[repr(C)]
-#[derive(Clone, Copy)]
+#[derive(Clone, Copy, PartialEq, Eq, Default)]
 pub struct QueueOpening {
     pub window: Interval,
     pub rate: Rate,
@@ -18,7 +20,11 @@ pub struct QueueOpening {
     pub budgets: [Volume; Queue::CLASSES_MAX],
 }
 
+// All three flags.
+const FLAGS_MAX: usize = 7;
+
 // 1 added delay, 2 self-update, 4 budgeted.
+#[tactic(auto, unfolding(crate::specs::Queue::flags_of))]
 fn flags(n: usize) -> Flags
     ensures { result ≡ flags_of n }
 {
@@ -32,42 +38,27 @@ fn flags(n: usize) -> Flags
 fn budgets_at(line: &[u8]) -> [Volume; Queue::CLASSES_MAX]
     ensures { result ≡ budgets_at line.now 35 }
 {
-    let mut budgets = [Volume(0); Queue::CLASSES_MAX];
-    let mut i = 0;
-    while i < Queue::CLASSES_MAX {
-        let size = hexadecimal::number_at(line, 35 + 8 * i);
-        budgets[i] = Volume(size);
-        i += 1;
-    }
-    budgets
+    rows_at(line, 35, Queue::CLASSES_MAX)
 }
 
 // Is the line as long as a queue's opening, with flags of at most 7?
+#[tactic(auto, unfolding(crate::specs::Queue::is_queue, units::specs::Logic::both))]
 pub fn fits(line: &[u8]) -> bool
     ensures { result ≡ is_queue line.now }
 {
-    if !crate::has(line, 99) {
-        return false;
-    }
-    count_at(line, 1) <= 7
+    crate::has(line, 99) && count_at(line, 1) <= FLAGS_MAX
 }
 
+#[tactic(auto, unfolding(crate::specs::Queue::queue_of))]
 pub fn read(line: &[u8]) -> QueueOpening
     ensures { result ≡ queue_of line.now }
 {
-    let n = count_at(line, 1);
-    let f = flags(n);
-    let classes = count_at(line, 2);
-    let window = interval_at(line, 3);
-    let rate = hexadecimal::number_at(line, 19);
-    let delay = hexadecimal::number_at(line, 27);
-    let budgets = budgets_at(line);
     QueueOpening {
-        window: window,
-        rate: Rate(rate),
-        delay: Delay(delay),
-        classes: classes,
-        flags: f,
-        budgets: budgets,
+        window: interval_at(line, 3),
+        rate: Rate(number_at(line, 19)),
+        delay: Delay(number_at(line, 27)),
+        classes: count_at(line, 2),
+        flags: flags(count_at(line, 1)),
+        budgets: budgets_at(line),
     }
 }

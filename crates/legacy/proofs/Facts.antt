@@ -5,18 +5,21 @@ use mathlib.Core.Path.{◌≡◌, sym, ◌∙◌}
 use mathlib.Core.List.{List, [], ◌∷◌}
 use native.Mathlib.Omega.{arith}
 use lib.ListN.{take, drop, get_or}
-use borrow.Author.Tests.{leb-true, le-leb, eqb-true}
+use borrow.Author.Tests.{leb-true, le-leb, eqb-true, eq-eqb}
 use Rattle.units.specs.Limits.{volume_max, rate_max, delay_max}
 use Rattle.units.specs.declared.Volume.{Volume}
+use Rattle.units.specs.declared.Rate.{Rate}
+use Rattle.units.specs.declared.Delay.{Delay}
 use Rattle.units.specs.declared.Interval.{Interval}
 use Rattle.units.specs.Logic.{pick, all_of}
 use Rattle.units.proofs.Logic.{both-fst, both-snd, all_go, all_none, all_head, all_tail}
 use Rattle.units.proofs.Windows.{Window, window}
+use Rattle.legacy.specs.declared.Choices.{Choices}
 use Rattle.legacy.specs.declared.Flags.{Flags}
 use Rattle.legacy.specs.declared.Queue.{Queue}
-use Rattle.legacy.specs.Open.{classes_max, budget_max, at_most, is_zero, rate_ok, budgets_ok}
+use Rattle.legacy.specs.Open.{classes_max, budget_max, at_most, is_zero, rate_ok, budgets_ok, open_of}
 use Rattle.legacy.specs.Record.{queue_max, record_ok}
-use Rattle.legacy.proofs.Rules.{record-tests}
+use Rattle.legacy.proofs.Rules.{open-tests, record-tests}
 
 pub record Sound (r : Queue) : Type 0 where
   pub window : Window r.window
@@ -69,6 +72,12 @@ budgeted n flags l e =
       eight = leb-true _ _ (both-fst _ _ rest);
       budget = λ k. everywhere budget_max (pick flags.budgeted n 0) l k (both-fst _ _ places) (both-snd _ _ places);
     }
+
+-- an opening that is done has at most eight classes
+pub opened-eight : (h : Choices) (w : Interval) (r : Rate) (d : Delay) (n : ℕ) (flags : Flags) (budgets : List Volume) → (open_of h w r d n flags budgets).number ≡ 0 → n ≤ classes_max
+opened-eight h w r d n flags budgets e =
+    let tests = sym (open-tests h w r d n flags budgets) ∙ eq-eqb _ _ e in
+    (budgeted _ _ _ (both-fst _ _ (both-snd _ _ (both-snd _ _ (both-snd _ _ (both-snd _ _ tests)))))).eight
 
 pub sound : (r : Queue) → record_ok r ≡ true → Sound r
 sound r e =

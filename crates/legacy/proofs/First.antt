@@ -1,8 +1,8 @@
 -- Laws of a change to each of a list's first k: store by store, its length, what it leaves alone, tests of it, and its undoing.
-use Prim.Native.Nat.{ℕ, zero, suc, ◌+◌, ◌-◌, ◌≤◌}
+use Prim.Native.Nat.{ℕ, zero, suc, ◌+◌, ◌-◌, ◌<◌, ◌≤◌}
 use mathlib.Core.Bool.{Bool, true}
-use mathlib.Core.Path.{◌≡◌, refl, ap, ◌∙◌}
-use mathlib.Core.List.{List, [], ◌∷◌}
+use mathlib.Core.Path.{◌≡◌, refl, sym, ap, ◌∙◌}
+use mathlib.Core.List.{List, [], ◌∷◌, ◌++◌}
 use native.Mathlib.Numerals.{add-one}
 use native.Mathlib.Omega.{arith}
 use lib.ListN.{length, take, drop, get_or, set}
@@ -22,6 +22,12 @@ more v q = record { 0 = q.0 + v }
 abbrev pub less : ℕ → Volume → Volume
 less v q = record { 0 = q.0 - v }
 
+-- what is tested of each holds at a place
+all_at : {A : Type 0} (p : A → Bool) (z : A) (l : List A) (i : ℕ) → i < length l → all_of p l ≡ true → p (get_or l i z) ≡ true
+all_at p z [] i lt t = absurd (omega arith)
+all_at p z (a ∷ l) zero lt t = all_head p a l t
+all_at p z (a ∷ l) (suc i) lt t = all_at p z l i (omega arith) (all_tail p a l t)
+
 pub add_is : (k v : ℕ) (l : List Volume) → add_to k v l ≡ on_first (more v) k l
 unfolding add_to on_first
 add_is zero v l = refl
@@ -35,6 +41,13 @@ take-is (suc k) v [] = refl
 take-is (suc k) v (q ∷ l) = rw (take-is k v l)
 
 module _ {A : Type 0} (f : A → A) where
+  -- the changed ones, before those that are left alone
+  first_parts : (k : ℕ) (l : List A) → on_first f k l ≡ on_first f (length (take k l)) (take k l) ++ drop k l
+  unfolding on_first
+  first_parts zero l = refl
+  first_parts (suc k) [] = refl
+  first_parts (suc k) (a ∷ l) = ap (λ (m : List A). f a ∷ m) (first_parts k l)
+
   pub first-none : (l : List A) → on_first f 0 l ≡ l
   unfolding on_first
   first-none l = refl
@@ -76,6 +89,10 @@ module _ {A : Type 0} (f : A → A) where
     pub first_store : (z : A) → set a i (f (get_or a i z)) ≡ on_first f (i + 1) l
     first_store z = rw (add-one, first_read z, e) (first_next i l z)
 
+    -- what is tested of each holds of what it reads
+    pub first_tested : (p : A → Bool) (z : A) → i < length l → all_of p l ≡ true → p (get_or a i z) ≡ true
+    first_tested p z lt t = ap p (first_read z) ∙ all_at p z l i lt t
+
     pub first-end : (n : ℕ) → i ≤ n → n ≤ i → a ≡ on_first f n l
     first-end n h k = let same : i ≡ n = omega arith in e ∙ ap (λ (j : ℕ). on_first f j l) same
 
@@ -99,6 +116,14 @@ module _ {A : Type 0} (f : A → A) where
   first_passes q passes zero l = all_none q
   first_passes q passes (suc k) [] = all_none q
   first_passes q passes (suc k) (a ∷ l) = all_go q (f a) _ (passes a) ∙ first_passes q passes k l
+
+-- what is lent as the first k comes back changed
+module _ (k v : ℕ) (l given : List Volume) where
+  pub add_given : given ≡ add_to (length (take k l)) v (take k l) → given ++ drop k l ≡ add_to k v l
+  add_given e = rw (e, add_is, add_is k v l) (sym (first_parts (more v) k l))
+
+  pub take_given : given ≡ take_from (length (take k l)) v (take k l) → given ++ drop k l ≡ take_from k v l
+  take_given e = rw (e, take-is, take-is k v l) (sym (first_parts (less v) k l))
 
 -- a change that undoes the other
 pub first-undo : {A : Type 0} (f g : A → A) → ((a : A) → g (f a) ≡ a) → (k : ℕ) (l : List A) → on_first g k (on_first f k l) ≡ l

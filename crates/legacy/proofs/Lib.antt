@@ -1,9 +1,11 @@
+pub mod All
 pub mod First
 pub mod Rules
 pub mod Facts
 pub mod Offers
 pub mod Moves
 pub mod Answers
+pub mod Found
 pub mod Kept
 pub mod Promised
 pub mod Runs

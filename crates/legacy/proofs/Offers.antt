@@ -35,12 +35,12 @@ start-low r t q h k m =
     let P : ℕ → Type 0 = λ (n : ℕ). n ≤ date_max + queue_max in
     pick-keeps P r.flags.add_delay _ _ (λ _. pick-keeps P r.flags.self_update _ _ (λ _. omega arith) (λ _. omega arith)) (λ _. omega arith)
 
-pub begun : (r : Queue) (t q : ℕ) (s : Date) → record_ok r ≡ true → (t ≤ date_max) × (q ≤ queue_max) → s.0 ≡ start_at r t q
-    → (s.0 ≡ start_at r t q) × (s.0 ≤ date_max + queue_max)
-begun r t q s ok h e =
-    let w = (sound r ok).window in
-    let low : start_at r t q ≤ date_max + queue_max = start-low r t q (omega arith) h.0 h.1 in
-    (e, omega (arith, e, low))
+-- a queue of such a record
+pub queued : (r : Queue) (p q : ℕ) → record_ok r ≡ true → q ≡ queue_at r p → q ≤ queue_max
+queued r p q ok e = rw e ((sound r ok).queue (class_of r.classes p))
+
+pub begun : (r : Queue) (t p q s : ℕ) → record_ok r ≡ true → t ≤ date_max → q ≡ queue_at r p → s ≡ start_at r t q → s ≤ date_max + queue_max
+begun r t p q s ok h k e = let w = (sound r ok).window in rw e (start-low r t q (omega arith) h (queued r p q ok k))
 
 -- four dates with these numbers are the offer
 dated : (start end first last : Date) (s e d : ℕ) → start.0 ≡ s → end.0 ≡ e → first.0 ≡ start.0 + d → last.0 ≡ end.0 + d

@@ -1,7 +1,9 @@
 -- Each public call's promise determines its answer and the record handed back: two answers that meet it are equal. `Post` is the reading of the contract in src/.
 use Prim.Native.Nat.{ℕ}
-use mathlib.Core.Path.{sym, ◌∙◌}
+use mathlib.Core.Path.{◌≡◌, sym, ◌∙◌}
 use mathlib.Core.List.{List}
+use denote.Ref.{Bor, MutBor}
+use contract.Lifetimes.{Lfts}
 use Rattle.units.specs.declared.Date.{Date}
 use Rattle.units.specs.declared.Volume.{Volume}
 use Rattle.units.specs.declared.Rate.{Rate}
@@ -32,7 +34,6 @@ use Rattle.legacy.proofs.Queue.dequeue.Reads as dequeue-reads
 use Rattle.legacy.proofs.Queue.list.Reads as list-reads
 use Rattle.legacy.proofs.volumes.within.Reads as within-reads
 use Rattle.legacy.proofs.volumes.hold.Reads as hold-reads
-use Rattle.legacy.proofs.volumes.unused.Reads as unused-reads
 use Rattle.legacy.proofs.volumes.add.Reads as add_reads
 use Rattle.legacy.proofs.volumes.take.Reads as take-reads
 
@@ -87,18 +88,18 @@ module _ (self : Queue) where
     book-unique at d r q x y f g = f ∙ sym g
 
 -- the classes' volumes
-module _ (l : List Volume) (count : ℕ) where
-  pub within-unique : (most : ℕ) → Determined (within-reads.Post tt (l, (count, (most, tt))))
-  within-unique most r q x y f g = f ∙ sym g
+module _ (lf : Lfts 1) where
+  module _ (l : Bor (List Volume)) where
+    pub within-unique : (most : ℕ) → Determined (within-reads.Post lf (l, (most, tt)))
+    within-unique most r q x y f g = f ∙ sym g
 
-  pub hold-unique : (size : Volume) → Determined (hold-reads.Post tt (l, (count, (size, tt))))
-  hold-unique size r q x y f g = f ∙ sym g
+    pub hold-unique : (size : Volume) → Determined (hold-reads.Post lf (l, (size, tt)))
+    hold-unique size r q x y f g = f ∙ sym g
 
-  pub unused-unique : Determined (unused-reads.Post tt (l, (count, tt)))
-  unused-unique r q x y f g = f ∙ sym g
+  -- what is lent comes back changed
+  module _ (l : MutBor (List Volume)) (size : Volume) (x y : _) where
+    pub add-unique : add_reads.Post lf (l, (size, tt)) tt x → add_reads.Post lf (l, (size, tt)) tt y → x.0.now ≡ y.0.now
+    add-unique f g = f ∙ sym g
 
-  pub add-unique : (size : Volume) → Determined (add_reads.Post tt (l, (count, (size, tt))))
-  add-unique size r q x y f g = f ∙ sym g
-
-  pub take-unique : (size : Volume) → Determined (take-reads.Post tt (l, (count, (size, tt))))
-  take-unique size r q x y f g = f ∙ sym g
+    pub take-unique : take-reads.Post lf (l, (size, tt)) tt x → take-reads.Post lf (l, (size, tt)) tt y → x.0.now ≡ y.0.now
+    take-unique f g = f ∙ sym g

@@ -6,3 +6,4 @@ pub mod Queueing
 pub mod Book
 pub mod Strict
 pub mod List
+pub mod Granted

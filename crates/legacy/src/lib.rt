@@ -1,23 +1,27 @@
 // The queue manager (legacy/mod.rs: LegacyManager): open, dry run, book, list, and manual queueing.
 #![tactic(auto)]
 
-ghost use Rattle.std.specs.Prelude.{◌≡◌, true, ◌+◌, ◌<◌, ◌≤◌};
+ghost use Rattle.std.specs.Prelude.{◌≡◌, true, ◌≤◌};
 ghost use Rattle.units.specs.Limits.{date_max, volume_max, window_ok};
+ghost use Rattle.units.specs.Refusal.{told};
 ghost use Rattle.legacy.specs.Choices.{ported, choices_ok};
-ghost use Rattle.legacy.specs.Open.{budget_max, open_of, refused_opening, rate_ok, budgets_ok};
+ghost use Rattle.legacy.specs.Open.{open_of, rate_ok, budgets_ok};
 ghost use Rattle.legacy.specs.Record.{queue_max, record_ok};
-ghost use Rattle.legacy.specs.DryRun.{dry_run_of, class_of, queue_at, budget_at, start_at, answer_at};
-ghost use Rattle.legacy.specs.Queueing.{refused_queueing, enqueue_at, dequeue_at, enqueue_of, dequeue_of};
+ghost use Rattle.legacy.specs.DryRun.{dry_run_of, class_of, queue_at, budget_at, start_at};
+ghost use Rattle.legacy.specs.Queueing.{enqueue_at, dequeue_at, enqueue_of, dequeue_of};
 ghost use Rattle.legacy.specs.Book.{book_of};
 ghost use Rattle.legacy.specs.List.{list_of};
+ghost use Rattle.legacy.specs.Granted.{offer_by, booked_by, manual_refusal};
 
+use units::blank::unused;
+use units::refusal::Refusal;
 use units::{Bundle, Date, Delay, Interval, Offer, Priority, Rate, Strict, TxData, Volume};
 
 pub mod volumes;
 
 // What an opening chooses and the record names: the strict flag.
 #[repr(C)]
-#[derive(Clone, Copy)]
+#[derive(Clone, Copy, PartialEq, Eq, Default)]
 pub struct Choices {
     pub strict: Strict,
 }
@@ -33,24 +37,25 @@ impl Choices {
     }
 
     // Is each choice one that there is?
+    #[tactic(auto, unfolding(crate::specs::Choices::choices_ok))]
     pub fn ok(self) -> bool
         ensures { result ≡ choices_ok self }
     {
-        let strict = self.strict;
-        strict.ok()
+        self.strict.ok()
     }
 }
 
 #[repr(C)]
-#[derive(Clone, Copy)]
+#[derive(Clone, Copy, PartialEq, Eq, Default)]
 pub struct Flags {
     pub add_delay: bool,
     pub self_update: bool,
     pub budgeted: bool,
 }
 
+// The C interface's layout: arrays beside their count, and a budget beside each queue.
 #[repr(C)]
-#[derive(Clone, Copy)]
+#[derive(Clone, Copy, PartialEq, Eq, Default)]
 pub struct Queue {
     pub choices: Choices,
     pub window: Interval,
@@ -62,9 +67,10 @@ pub struct Queue {
     pub budgets: [Volume; Queue::CLASSES_MAX],
 }
 
+// The answers are the C interface's: a number and a value beside it. Inside, what may be refused is a Result. Each manager has its own types of answers, of which its `open_of`, `book_of` and `list_of` speak.
 // The answer of an opening: 01's number and the record, which is zero on a refusal.
 #[repr(C)]
-#[derive(Clone, Copy)]
+#[derive(Clone, Copy, PartialEq, Eq, Default)]
 pub struct Opened {
     pub number: u8,
     pub manager: Queue,
@@ -72,7 +78,7 @@ pub struct Opened {
 
 // The answer of a booking or of manual queueing: 01's number and the record, which is the one that came on a refusal.
 #[repr(C)]
-#[derive(Clone, Copy)]
+#[derive(Clone, Copy, PartialEq, Eq, Default)]
 pub struct Booked {
     pub number: u8,
     pub manager: Queue,
@@ -80,13 +86,24 @@ pub struct Booked {
 
 // The answer of a list: 01's number, the class count and each class's queue, zero on a refusal.
 #[repr(C)]
-#[derive(Clone, Copy)]
+#[derive(Clone, Copy, PartialEq, Eq, Default)]
 pub struct Listing {
     pub number: u8,
     pub classes: usize,
     pub queues: [Volume; Queue::CLASSES_MAX],
 }
 
+// What a dry run answers.
+fn offer(dates: Result<TxData, Refusal>) -> Offer
+    ensures { result ≡ offer_by dates }
+{
+    match dates {
+        Ok(dates) => Offer { number: 0, dates },
+        Err(refusal) => Offer::refused(refusal.number()),
+    }
+}
+
+// `record_ok` stays a clause of the kept calls and of what is inside: they take a record as C holds it, docs/CALLS.md names them with that clause (`dry_run_kept`, `book_kept`), and a type with it as its invariant would ask more of their callers.
 impl Queue {
     pub const CLASSES_MAX: usize = 8;
 
@@ -95,65 +112,51 @@ impl Queue {
     // Eight budgets: under self-update a booking is never refused for its queue's limit.
     pub const QUEUE_MAX: u64 = Queue::CLASSES_MAX as u64 * Queue::BUDGET_MAX;
 
-    fn refused_opening(number: u8) -> Opened
-        ensures { result ≡ refused_opening number }
-    {
-        let none = [Volume(0); Queue::CLASSES_MAX];
-        Opened {
-            number: number,
-            manager: Queue {
-                choices: Choices { strict: Strict(0) },
-                window: Interval {
-                    start: Date(0),
-                    end: Date(0),
-                },
-                rate: Rate(0),
-                delay: Delay(0),
-                classes: 0,
-                flags: Flags {
-                    add_delay: false,
-                    self_update: false,
-                    budgeted: false,
-                },
-                queues: none,
-                budgets: none,
-            },
-        }
-    }
-
     // Are the rate, and the window's length times it, inside their limits?
+    #[tactic(auto, unfolding(crate::specs::Open::rate_ok, units::specs::Logic::both))]
     pub fn rate_ok(window: Interval, rate: Rate) -> bool
         requires { window_ok window ≡ true }
         ensures { result ≡ rate_ok window rate.0 }
     {
-        if rate.0 < 1 {
-            return false;
-        }
-        if Rate::MAX < rate.0 {
-            return false;
-        }
-        rate.0 <= Volume::MAX / (window.end.0 - window.start.0)
+        (1..=Rate::MAX).contains(&rate.0) && rate.0 <= Volume::MAX / (window.end.0 - window.start.0)
     }
 
-    // 1 to 8 classes, and a budget inside its limits for each where there are budgets; else zero.
+    // 1 to 8 classes, and a budget inside its limits for each where there are budgets; else zero. Its arguments, as those of
+    // `rate_ok` and `open`, are no struct's: the calls keep their signatures, of which proofs/Unique speaks.
+    #[tactic(auto, unfolding(crate::specs::Open::budgets_ok, units::specs::Logic::both))]
     pub fn budgets_ok(classes: usize, flags: Flags, budgets: [Volume; Queue::CLASSES_MAX]) -> bool
         ensures { result ≡ budgets_ok classes flags budgets }
     {
-        if classes < 1 {
-            return false;
-        }
-        if Queue::CLASSES_MAX < classes {
-            return false;
-        }
-        let budgeted = flags.budgeted;
-        let used = if budgeted { classes } else { 0 };
-        if !volumes::within(budgets, used, Queue::BUDGET_MAX) {
-            return false;
-        }
-        volumes::unused(budgets, used)
+        let used = if flags.budgeted { classes } else { 0 };
+        (1..=Queue::CLASSES_MAX).contains(&classes)
+            && volumes::within(&budgets[..used], Queue::BUDGET_MAX)
+            && unused(&budgets[used..])
     }
 
-    // LegacyManager::new and try_init: 2 for a choice that there is not, then 3, 6, 5, 14 in this order; all queues begin at zero.
+    // An opening's tests: 2 for a choice that there is not, then 3, 6, 5, 14 in this order.
+    #[tactic(auto, unfolding(crate::specs::Open::open_of))]
+    fn check(self) -> Result<(), Refusal>
+        ensures { let o = open_of self.choices self.window self.rate self.delay self.classes self.flags self.budgets in told result ≡ o.number }
+    {
+        if !self.choices.ok() {
+            return Err(Refusal::Bundle);
+        }
+        if !self.window.is_window() {
+            return Err(Refusal::Window);
+        }
+        if !Queue::rate_ok(self.window, self.rate) {
+            return Err(Refusal::Volume);
+        }
+        if Delay::MAX < self.delay.0 {
+            return Err(Refusal::Delays);
+        }
+        if !Queue::budgets_ok(self.classes, self.flags, self.budgets) {
+            return Err(Refusal::Classes);
+        }
+        Ok(())
+    }
+
+    // LegacyManager::new and try_init: 2, 3, 6, 5, 14; all queues begin at zero.
     pub fn open(
         choices: Choices,
         window: Interval,
@@ -165,68 +168,34 @@ impl Queue {
     ) -> Opened
         ensures { result ≡ open_of choices window rate delay classes flags budgets }
     {
-        if !choices.ok() {
-            return Queue::refused_opening(units::refusal::CHOICE);
-        }
-        if !window.is_window() {
-            return Queue::refused_opening(units::refusal::WINDOW);
-        }
-        if !Queue::rate_ok(window, rate) {
-            return Queue::refused_opening(units::refusal::VOLUME);
-        }
-        if Delay::MAX < delay.0 {
-            return Queue::refused_opening(units::refusal::DELAYS);
-        }
-        if !Queue::budgets_ok(classes, flags, budgets) {
-            return Queue::refused_opening(units::refusal::CLASSES);
-        }
-        let none = [Volume(0); Queue::CLASSES_MAX];
-        Opened {
-            number: 0,
-            manager: Queue {
-                choices: choices,
-                window: window,
-                rate: rate,
-                delay: delay,
-                classes: classes,
-                flags: flags,
-                queues: none,
-                budgets: budgets,
+        let zero = Queue::default();
+        let manager = Queue {
+            choices,
+            window,
+            rate,
+            delay,
+            classes,
+            flags,
+            budgets,
+            ..zero
+        };
+        match manager.check() {
+            Ok(()) => Opened { number: 0, manager },
+            Err(refusal) => Opened {
+                number: refusal.number(),
+                manager: zero,
             },
         }
     }
 
     // Does the record keep its rules?
+    #[tactic(auto, unfolding(crate::specs::Record::record_ok, units::specs::Logic::both))]
     pub fn ok(self) -> bool
         ensures { result ≡ record_ok self }
     {
-        let choices = self.choices;
-        let window = self.window;
-        let rate = self.rate;
-        let delay = self.delay;
-        let classes = self.classes;
-        let flags = self.flags;
-        let queues = self.queues;
-        let budgets = self.budgets;
-        if !choices.ok() {
-            return false;
-        }
-        if !window.is_window() {
-            return false;
-        }
-        if !Queue::rate_ok(window, rate) {
-            return false;
-        }
-        if Delay::MAX < delay.0 {
-            return false;
-        }
-        if !Queue::budgets_ok(classes, flags, budgets) {
-            return false;
-        }
-        if !volumes::within(queues, classes, Queue::QUEUE_MAX) {
-            return false;
-        }
-        volumes::unused(queues, classes)
+        self.check().is_ok()
+            && volumes::within(&self.queues[..self.classes], Queue::QUEUE_MAX)
+            && unused(&self.queues[self.classes..])
     }
 
     // The class of a priority: the priority, at most the last.
@@ -234,97 +203,69 @@ impl Queue {
         requires { record_ok self ≡ true }
         ensures { result ≡ class_of self.classes priority.0 }
     {
-        let last = self.classes - 1;
-        let p = priority.0 as usize;
-        if p <= last { p } else { last }
+        (priority.0 as usize).min(self.classes - 1)
     }
 
     // get_queue_size
-    fn queue(self, priority: Priority) -> Volume
-        requires { record_ok self ≡ true }
-        ensures fact_1 { result.0 ≡ queue_at self priority.0 }
-        ensures fact_2 { result.0 ≤ queue_max }
+    fn queue(&self, priority: Priority) -> Volume
+        requires { record_ok self.now ≡ true }
+        ensures { result.0 ≡ queue_at self.now priority.0 }
     {
-        let k = self.class(priority);
-        let queues = self.queues;
-        queues[k]
+        self.queues[self.class(priority)]
     }
 
     // get_budget
-    fn budget(self, priority: Priority) -> Volume
-        requires { record_ok self ≡ true }
-        ensures fact_1 { result.0 ≡ budget_at self priority.0 }
-        ensures fact_2 { result.0 ≤ budget_max }
+    fn budget(&self, priority: Priority) -> Volume
+        requires { record_ok self.now ≡ true }
+        ensures { result.0 ≡ budget_at self.now priority.0 }
     {
-        let flags = self.flags;
-        let budgeted = flags.budgeted;
-        if budgeted {
-            let k = self.class(priority);
-            let budgets = self.budgets;
-            return budgets[k];
+        if self.flags.budgeted {
+            return self.budgets[self.class(priority)];
         }
-        let window = self.window;
-        Volume((window.end.0 - window.start.0) * self.rate.0)
+        Volume((self.window.end.0 - self.window.start.0) * self.rate.0)
     }
 
     // The send start: with added delay the queue before the bundle is sent first.
     fn start(self, at: Date, queue: Volume) -> Date
-        requires fact_1 { record_ok self ≡ true }
-        requires fact_2 { (at.0 ≤ date_max) × (queue.0 ≤ queue_max) }
-        ensures fact_1 { result.0 ≡ start_at self at.0 queue.0 }
-        ensures fact_2 { result.0 ≤ date_max + queue_max }
+        requires kept { record_ok self ≡ true }
+        requires low { (at.0 ≤ date_max) × (queue.0 ≤ queue_max) }
+        ensures { result.0 ≡ start_at self at.0 queue.0 }
     {
-        let window = self.window;
-        let flags = self.flags;
-        let from = window.start;
+        let from = self.window.start;
         let wait = queue.0 / self.rate.0;
-        let add_delay = flags.add_delay;
-        let self_update = flags.self_update;
-        if add_delay {
-            if self_update {
-                return units::later(Date(from.0 + wait), at);
-            }
-            let asked = units::later(from, at);
-            return Date(asked.0 + wait);
+        if !self.flags.add_delay {
+            return from.max(at);
         }
-        units::later(from, at)
+        if self.flags.self_update {
+            return Date(from.0 + wait).max(at);
+        }
+        Date(from.max(at).0 + wait)
     }
 
-    // The offer, on a record that keeps its rules and a bundle inside its limits.
-    fn answer(self, at: Date, bundle: Bundle) -> Offer
-        requires fact_1 { record_ok self ≡ true }
-        requires fact_2 { at.0 ≤ date_max }
-        requires fact_3 { bundle.size.0 ≤ volume_max }
-        ensures { result ≡ answer_at self at.0 bundle }
+    // The dates of the offer, on a record that keeps its rules: 2, then 7.
+    fn answer(self, at: Date, bundle: Bundle) -> Result<TxData, Refusal>
+        requires { record_ok self ≡ true }
+        ensures { offer_by result ≡ dry_run_of self at bundle }
     {
-        let size = bundle.size;
-        let priority = bundle.priority;
-        let window = self.window;
-        let rate = self.rate;
-        let delay = self.delay;
-        let queue = self.queue(priority);
-        let budget = self.budget(priority);
-        if budget.0 < queue.0 + size.0 {
-            return Offer::refused(units::refusal::NO_OFFER);
+        if !bundle.ok_at(at) {
+            return Err(Refusal::Bundle);
+        }
+        let queue = self.queue(bundle.priority);
+        if self.budget(bundle.priority).0 < queue.0 + bundle.size.0 {
+            return Err(Refusal::NoOffer);
         }
         let start = self.start(at, queue);
-        let end = Date(start.0 + size.0 / rate.0);
-        if window.end.0 < end.0 {
-            return Offer::refused(units::refusal::NO_OFFER);
+        let end = Date(start.0 + bundle.size.0 / self.rate.0);
+        if self.window.end < end {
+            return Err(Refusal::NoOffer);
         }
-        Offer {
-            number: 0,
-            dates: TxData {
-                send: Interval {
-                    start: start,
-                    end: end,
-                },
-                recv: Interval {
-                    start: start.after(delay),
-                    end: end.after(delay),
-                },
+        Ok(TxData {
+            send: Interval { start, end },
+            recv: Interval {
+                start: start.after(self.delay),
+                end: end.after(self.delay),
             },
-        }
+        })
     }
 
     // The dry run on a record that keeps its rules, without testing it again: for a caller who holds such a record.
@@ -332,72 +273,74 @@ impl Queue {
         requires { record_ok self ≡ true }
         ensures { result ≡ dry_run_of self at bundle }
     {
-        if !bundle.ok_at(at) {
-            return Offer::refused(units::refusal::BUNDLE);
-        }
-        self.answer(at, bundle)
+        offer(self.answer(at, bundle))
     }
 
     // dry_run_tx: 1, 2, then 7.
+    #[tactic(auto, unfolding(crate::specs::DryRun::dry_run_of))]
     pub fn dry_run(self, at: Date, bundle: Bundle) -> Offer
         ensures { result ≡ dry_run_of self at bundle }
     {
         if !self.ok() {
-            return Offer::refused(units::refusal::RECORD);
+            return Offer::refused(Refusal::Record.number());
         }
         self.dry_run_kept(at, bundle)
     }
 
-    fn refused_queueing(self, number: u8) -> Booked
-        ensures { result ≡ refused_queueing number self }
+    // The answer to what is done, or refused: then with the record as it came.
+    fn booked(self, done: Result<Queue, Refusal>) -> Booked
+        ensures { result ≡ booked_by self done }
     {
-        Booked {
-            number: number,
-            manager: self,
+        match done {
+            Ok(manager) => Booked { number: 0, manager },
+            Err(refusal) => Booked {
+                number: refusal.number(),
+                manager: self,
+            },
         }
     }
 
+    // `put` and `pull`, and the calls over them, stay two of a shape: each promises a definition of its own (`enqueue_at`, `dequeue_at`), and one function would take the test and the change as closures, each with a clause.
     // VolumeManager::enqueue: the size is added to classes 0 to the bundle's own, all or none: 13.
-    fn put(self, bundle: Bundle) -> Booked
-        requires fact_1 { record_ok self ≡ true }
-        requires fact_2 { bundle.size.0 ≤ volume_max }
-        ensures { result ≡ enqueue_at self bundle }
+    fn put(self, bundle: Bundle) -> Result<Queue, Refusal>
+        requires kept { record_ok self ≡ true }
+        requires small { bundle.size.0 ≤ volume_max }
+        ensures { booked_by self result ≡ enqueue_at self bundle }
     {
-        let size = bundle.size;
-        let priority = bundle.priority;
-        let last = self.class(priority);
-        let queues = self.queues;
-        if !volumes::within(queues, last + 1, Queue::QUEUE_MAX - size.0) {
-            return self.refused_queueing(units::refusal::QUEUE);
+        let reached = self.class(bundle.priority) + 1;
+        if !volumes::within(&self.queues[..reached], Queue::QUEUE_MAX - bundle.size.0) {
+            return Err(Refusal::Queue);
         }
-        let more = volumes::add(queues, last + 1, size);
-        let mut left = self;
-        left.queues = more;
-        Booked {
-            number: 0,
-            manager: left,
-        }
+        let mut queues = self.queues;
+        volumes::add(&mut queues[..reached], bundle.size);
+        Ok(Queue { queues, ..self })
     }
 
     // VolumeManager::dequeue: the size is taken from classes 0 to the bundle's own, all or none: 13.
-    fn pull(self, bundle: Bundle) -> Booked
+    fn pull(self, bundle: Bundle) -> Result<Queue, Refusal>
         requires { record_ok self ≡ true }
-        ensures { result ≡ dequeue_at self bundle }
+        ensures { booked_by self result ≡ dequeue_at self bundle }
     {
-        let size = bundle.size;
-        let priority = bundle.priority;
-        let last = self.class(priority);
-        let queues = self.queues;
-        if !volumes::hold(queues, last + 1, size) {
-            return self.refused_queueing(units::refusal::QUEUE);
+        let reached = self.class(bundle.priority) + 1;
+        if !volumes::hold(&self.queues[..reached], bundle.size) {
+            return Err(Refusal::Queue);
         }
-        let less = volumes::take(queues, last + 1, size);
-        let mut left = self;
-        left.queues = less;
-        Booked {
-            number: 0,
-            manager: left,
+        let mut queues = self.queues;
+        volumes::take(&mut queues[..reached], bundle.size);
+        Ok(Queue { queues, ..self })
+    }
+
+    // The record that a booking leaves: 2, 9, 17, then 13.
+    fn try_book(self, at: Date, bundle: Bundle, dates: TxData) -> Result<Queue, Refusal>
+        requires { record_ok self ≡ true }
+        ensures { booked_by self result ≡ book_of self at bundle dates }
+    {
+        self.dry_run_kept(at, bundle)
+            .check(self.choices.strict, dates)?;
+        if self.flags.self_update {
+            return self.put(bundle);
         }
+        Ok(self)
     }
 
     // The booking on such a record.
@@ -405,30 +348,49 @@ impl Queue {
         requires { record_ok self ≡ true }
         ensures { result ≡ book_of self at bundle dates }
     {
-        let offer = self.dry_run_kept(at, bundle);
-        let number = offer.refusal(self.choices.strict, dates);
-        if number != 0 {
-            return self.refused_queueing(number);
-        }
-        let flags = self.flags;
-        let self_update = flags.self_update;
-        if self_update {
-            return self.put(bundle);
-        }
-        Booked {
-            number: 0,
-            manager: self,
-        }
+        self.booked(self.try_book(at, bundle, dates))
     }
 
     // schedule_tx, with the time that the dry run was asked: 1, 2, 9, 17, then 13; enqueues only under self-update.
+    #[tactic(auto, unfolding(crate::specs::Book::book_of))]
     pub fn book(self, at: Date, bundle: Bundle, dates: TxData) -> Booked
         ensures { result ≡ book_of self at bundle dates }
     {
         if !self.ok() {
-            return self.refused_queueing(units::refusal::RECORD);
+            return self.booked(Err(Refusal::Record));
         }
         self.book_kept(at, bundle, dates)
+    }
+
+    // The tests of manual queueing: 2, 12.
+    #[tactic(auto, unfolding(crate::specs::Granted::manual_refusal))]
+    fn check_manual(self, bundle: Bundle) -> Result<(), Refusal>
+        ensures { told result ≡ manual_refusal self bundle }
+    {
+        if !bundle.ok() {
+            return Err(Refusal::Bundle);
+        }
+        if self.flags.self_update {
+            return Err(Refusal::SelfUpdate);
+        }
+        Ok(())
+    }
+
+    // The records that manual queueing leaves: 2, 12, then 13.
+    fn try_enqueue(self, bundle: Bundle) -> Result<Queue, Refusal>
+        requires { record_ok self ≡ true }
+        ensures { booked_by self result ≡ enqueue_of self bundle }
+    {
+        self.check_manual(bundle)?;
+        self.put(bundle)
+    }
+
+    fn try_dequeue(self, bundle: Bundle) -> Result<Queue, Refusal>
+        requires { record_ok self ≡ true }
+        ensures { booked_by self result ≡ dequeue_of self bundle }
+    {
+        self.check_manual(bundle)?;
+        self.pull(bundle)
     }
 
     // manual_enqueue on a record that keeps its rules.
@@ -436,23 +398,16 @@ impl Queue {
         requires { record_ok self ≡ true }
         ensures { result ≡ enqueue_of self bundle }
     {
-        if !bundle.ok() {
-            return self.refused_queueing(units::refusal::BUNDLE);
-        }
-        let flags = self.flags;
-        let self_update = flags.self_update;
-        if self_update {
-            return self.refused_queueing(units::refusal::SELF_UPDATE);
-        }
-        self.put(bundle)
+        self.booked(self.try_enqueue(bundle))
     }
 
     // manual_enqueue: 1, 2, 12, 13.
+    #[tactic(auto, unfolding(crate::specs::Queueing::enqueue_of))]
     pub fn enqueue(self, bundle: Bundle) -> Booked
         ensures { result ≡ enqueue_of self bundle }
     {
         if !self.ok() {
-            return self.refused_queueing(units::refusal::RECORD);
+            return self.booked(Err(Refusal::Record));
         }
         self.enqueue_kept(bundle)
     }
@@ -462,45 +417,37 @@ impl Queue {
         requires { record_ok self ≡ true }
         ensures { result ≡ dequeue_of self bundle }
     {
-        if !bundle.ok() {
-            return self.refused_queueing(units::refusal::BUNDLE);
-        }
-        let flags = self.flags;
-        let self_update = flags.self_update;
-        if self_update {
-            return self.refused_queueing(units::refusal::SELF_UPDATE);
-        }
-        self.pull(bundle)
+        self.booked(self.try_dequeue(bundle))
     }
 
     // manual_dequeue: 1, 2, 12, 13.
+    #[tactic(auto, unfolding(crate::specs::Queueing::dequeue_of))]
     pub fn dequeue(self, bundle: Bundle) -> Booked
         ensures { result ≡ dequeue_of self bundle }
     {
         if !self.ok() {
-            return self.refused_queueing(units::refusal::RECORD);
+            return self.booked(Err(Refusal::Record));
         }
         self.dequeue_kept(bundle)
     }
 
     // The class count and each class's queue: 1.
+    #[tactic(auto, unfolding(crate::specs::List::list_of))]
     pub fn list(self) -> Listing
         ensures { result ≡ list_of self }
     {
         if !self.ok() {
-            let none = [Volume(0); Queue::CLASSES_MAX];
             return Listing {
-                number: units::refusal::RECORD,
-                classes: 0,
-                queues: none,
+                number: Refusal::Record.number(),
+                ..Listing::default()
             };
         }
-        let count = self.classes;
-        let held = self.queues;
+        // Through a variable: Rattle does not move a field that is an array straight into another.
+        let queues = self.queues;
         Listing {
             number: 0,
-            classes: count,
-            queues: held,
+            classes: self.classes,
+            queues,
         }
     }
 }

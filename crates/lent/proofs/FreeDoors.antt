@@ -1,4 +1,4 @@
--- The doors of the free-volume manager: its calls lent and kept, by value and over numbers, and the trace program's parts of a booking, by what each promises.
+-- The doors of the free-volume manager: its calls lent and kept, by value and over a record's parts, and the trace program's parts of a booking, by what each promises.
 use mathlib.Core.Path.{◌≡◌}
 use mathlib.Core.Logic.{◌⊎◌}
 use borrow.Fn.Kinds.{Dens, ended_of}
@@ -27,14 +27,14 @@ use Rattle.seg.proofs.FreeVolume.chosen.Reads as chosen-reads
 use Rattle.seg.proofs.FreeVolume.cut.Reads as cut-reads
 use Rattle.seg.proofs.FreeVolume.dry_run_kept.Reads as kept-dry-reads
 use Rattle.seg.proofs.FreeVolume.book_kept.Reads as kept-book-reads
-use Rattle.howrekano.specs.Words.{free_volume_in, dates_in}
+use Rattle.howrekano.specs.Words.{free_volume_in}
 use Rattle.howrekano.proofs.Unique.{Answered, Stored}
 use Rattle.howrekano.proofs.free.hk_free_dry_run_kept.Kinds as words-dry-kinds
 use Rattle.howrekano.proofs.free.hk_free_dry_run_kept.Reads as words-dry-reads
 use Rattle.howrekano.proofs.free.hk_free_book_kept.Kinds as words-book-kinds
 use Rattle.howrekano.proofs.free.hk_free_book_kept.Reads as words-book-reads
 
--- hk_free_dry_run_kept: numbers that make the record, and an answer that its promise allows
+-- hk_free_dry_run_kept: parts that make the record, and an answer that its promise allows
 module _ (κs : Lfts 4) (a : Dens κs words-dry-kinds.ps) where
   abbrev pub asked : FreeVolume
   asked = free_volume_in a.1.1.1.1.1.1.1.1.1.0.now a.0 a.1.0.now a.1.1.0 a.1.1.1.0.now a.1.1.1.1.0 a.1.1.1.1.1.0.now a.1.1.1.1.1.1.0
@@ -43,7 +43,7 @@ abbrev pub DryByWords : FreeVolume → Date → Bundle → Offer → Type 0
 DryByWords r at b o =
     (κs : Lfts 4) × (a : Dens κs words-dry-kinds.ps) × (asked κs a ≡ r) × (a.1.1.1.1.1.1.1.0 ≡ at) × (a.1.1.1.1.1.1.1.1.0 ≡ b) × (Met (words-dry-reads.Post κs a) o)
 
--- hk_free_book_kept: likewise, and the record that the numbers make at exit
+-- hk_free_book_kept: likewise, and the record that the parts make at exit
 module _ (κs : Lfts 7) (a : Dens κs words-book-kinds.ps) where
   abbrev pub held : FreeVolume
   held = free_volume_in a.1.1.1.1.1.1.1.1.1.1.1.0.now a.0 a.1.0.now a.1.1.0 a.1.1.1.0.now a.1.1.1.1.0 a.1.1.1.1.1.0.now a.1.1.1.1.1.1.0.now
@@ -56,7 +56,7 @@ module _ (κs : Lfts 7) (a : Dens κs words-book-kinds.ps) where
 
 abbrev pub BookByWords : FreeVolume → Date → Bundle → TxData → Booked → Type 0
 BookByWords r at b d x =
-    (κs : Lfts 7) × (a : Dens κs words-book-kinds.ps) × (e : Exit κs a) × (held κs a ≡ r) × (a.1.1.1.1.1.1.1.1.0 ≡ at) × (a.1.1.1.1.1.1.1.1.1.0 ≡ b) × (dates_in a.1.1.1.1.1.1.1.1.1.1.0.now ≡ d)
+    (κs : Lfts 7) × (a : Dens κs words-book-kinds.ps) × (e : Exit κs a) × (held κs a ≡ r) × (a.1.1.1.1.1.1.1.1.0 ≡ at) × (a.1.1.1.1.1.1.1.1.1.0 ≡ b) × (a.1.1.1.1.1.1.1.1.1.1.0.now ≡ d)
     × (words-book-reads.Post κs a x.number e) × (left κs a e ≡ x.manager)
 
 -- the trace program's dry run: what is chosen, and its answer
@@ -72,7 +72,7 @@ BookChosen r at b d x =
     × ((k : Cut) × (n : Volume) × (Met (cut-reads.Post tt (r, (c.place, (d.send, (b.size, tt))))) k) × (Met (changed-reads.Post tt (r.room, (k.off, (k.on, tt)))) n)
     × (x ≡ record { number = k.number; manager = with_left r k.list n }))))
 
--- every door: a total call lent, a kept one by value, a kept one over numbers, the trace program's
+-- every door: a total call lent, a kept one by value, a kept one over a record's parts, the trace program's
 abbrev pub Dry : FreeVolume → Date → Bundle → Offer → Type 0
 Dry r at b o = (Answered (dry_run_of r at b) o) ⊎ ((Met (kept-dry-reads.Post tt (r, (at, (b, tt)))) o) ⊎ ((DryByWords r at b o) ⊎ (DryChosen r at b o)))
 

@@ -39,14 +39,14 @@ use Rattle.poly_seg.proofs.PolySeg.chosen.Reads as chosen-reads
 use Rattle.poly_seg.proofs.PolySeg.cut.Reads as cut-reads
 use Rattle.poly_seg.proofs.PolySeg.dry_run_kept.Reads as kept-dry-reads
 use Rattle.poly_seg.proofs.PolySeg.book_kept.Reads as kept-book-reads
-use Rattle.howrekano.specs.Words.{polynome_in, poly_seg_in, dates_in}
+use Rattle.howrekano.specs.Words.{polynome_in, poly_seg_in}
 use Rattle.howrekano.proofs.Unique.{Answered, Stored}
 use Rattle.howrekano.proofs.polynomial.hk_polynomial_dry_run_kept.Kinds as words-dry-kinds
 use Rattle.howrekano.proofs.polynomial.hk_polynomial_dry_run_kept.Reads as words-dry-reads
 use Rattle.howrekano.proofs.polynomial.hk_polynomial_book_kept.Kinds as words-book-kinds
 use Rattle.howrekano.proofs.polynomial.hk_polynomial_book_kept.Reads as words-book-reads
 
--- hk_polynomial_dry_run_kept: numbers that make the record, and an answer that its promise allows
+-- hk_polynomial_dry_run_kept: parts that make the record, and an answer that its promise allows
 module _ (κs : Lfts 4) (a : Dens κs words-dry-kinds.ps) where
   abbrev asked : PolySeg
   asked = poly_seg_in a.1.1.1.1.1.1.1.1.1.0.now a.0 (polynome_in a.1.0.now a.1.1.0) a.1.1.1.0.now a.1.1.1.1.0 a.1.1.1.1.1.0.now a.1.1.1.1.1.1.0
@@ -55,7 +55,7 @@ abbrev DryByWords : PolySeg → Date → Bundle → Offer → Type 0
 DryByWords r at b o =
     (κs : Lfts 4) × (a : Dens κs words-dry-kinds.ps) × (asked κs a ≡ r) × (a.1.1.1.1.1.1.1.0 ≡ at) × (a.1.1.1.1.1.1.1.1.0 ≡ b) × (Met (words-dry-reads.Post κs a) o)
 
--- hk_polynomial_book_kept: likewise, and the record that the numbers make at exit
+-- hk_polynomial_book_kept: likewise, and the record that the parts make at exit
 module _ (κs : Lfts 6) (a : Dens κs words-book-kinds.ps) where
   abbrev held : PolySeg
   held = poly_seg_in a.1.1.1.1.1.1.1.1.1.1.0.now a.0 (polynome_in a.1.0.now a.1.1.0) a.1.1.1.0.now a.1.1.1.1.0 a.1.1.1.1.1.0.now a.1.1.1.1.1.1.0.now
@@ -68,7 +68,7 @@ module _ (κs : Lfts 6) (a : Dens κs words-book-kinds.ps) where
 
 abbrev BookByWords : PolySeg → Date → Bundle → TxData → Booked → Type 0
 BookByWords r at b d x =
-    (κs : Lfts 6) × (a : Dens κs words-book-kinds.ps) × (e : Exit κs a) × (held κs a ≡ r) × (a.1.1.1.1.1.1.1.0 ≡ at) × (a.1.1.1.1.1.1.1.1.0 ≡ b) × (dates_in a.1.1.1.1.1.1.1.1.1.0.now ≡ d)
+    (κs : Lfts 6) × (a : Dens κs words-book-kinds.ps) × (e : Exit κs a) × (held κs a ≡ r) × (a.1.1.1.1.1.1.1.0 ≡ at) × (a.1.1.1.1.1.1.1.1.0 ≡ b) × (a.1.1.1.1.1.1.1.1.1.0.now ≡ d)
     × (words-book-reads.Post κs a x.number e) × (left κs a e ≡ x.manager)
 
 -- the trace program's dry run: what is chosen, and its answer
@@ -83,7 +83,7 @@ BookChosen r at b d x =
     ⊎ ((refusal_of (strict_of r) c.offer d ≡ 0)
     × ((k : Cut) × (Met (cut-reads.Post tt (r, (c.place, (d.send, tt)))) k) × (x ≡ record { number = k.number; manager = with_free r k.list }))))
 
--- every door: a total call lent, a kept one by value, a kept one over numbers, the trace program's
+-- every door: a total call lent, a kept one by value, a kept one over a record's parts, the trace program's
 abbrev Dry : PolySeg → Date → Bundle → Offer → Type 0
 Dry r at b o = (Answered (dry_run_of r at b) o) ⊎ ((Met (kept-dry-reads.Post tt (r, (at, (b, tt)))) o) ⊎ ((DryByWords r at b o) ⊎ (DryChosen r at b o)))
 

@@ -38,14 +38,14 @@ use Rattle.pseg.proofs.Promised.{promised, dry-run-met, book-met, list-met, open
 use Rattle.pseg.proofs.PrioritySeg.set.Reads as set_Reads
 use Rattle.pseg.proofs.PrioritySeg.dry_run_kept.Reads as kept-dry-reads
 use Rattle.pseg.proofs.PrioritySeg.book_kept.Reads as kept-book-reads
-use Rattle.howrekano.specs.Words.{priority_seg_in, dates_in}
+use Rattle.howrekano.specs.Words.{priority_seg_in}
 use Rattle.howrekano.proofs.Unique.{Answered, Stored}
 use Rattle.howrekano.proofs.priority.hk_priority_dry_run_kept.Kinds as words-dry-kinds
 use Rattle.howrekano.proofs.priority.hk_priority_dry_run_kept.Reads as words-dry-reads
 use Rattle.howrekano.proofs.priority.hk_priority_book_kept.Kinds as words-book-kinds
 use Rattle.howrekano.proofs.priority.hk_priority_book_kept.Reads as words-book-reads
 
--- hk_priority_dry_run_kept: numbers that make the record, and an answer that its promise allows
+-- hk_priority_dry_run_kept: parts that make the record, and an answer that its promise allows
 module _ (κs : Lfts 4) (a : Dens κs words-dry-kinds.ps) where
   abbrev asked : PrioritySeg
   asked = priority_seg_in a.1.1.1.1.1.1.1.1.1.0.now a.0 a.1.0.now a.1.1.0 a.1.1.1.0.now a.1.1.1.1.0 a.1.1.1.1.1.0.now a.1.1.1.1.1.1.0
@@ -54,7 +54,7 @@ abbrev DryByWords : PrioritySeg → Date → Bundle → Offer → Type 0
 DryByWords r at b o =
     (κs : Lfts 4) × (a : Dens κs words-dry-kinds.ps) × (asked κs a ≡ r) × (a.1.1.1.1.1.1.1.0 ≡ at) × (a.1.1.1.1.1.1.1.1.0 ≡ b) × (Met (words-dry-reads.Post κs a) o)
 
--- hk_priority_book_kept: likewise, and the record that the numbers make at exit
+-- hk_priority_book_kept: likewise, and the record that the parts make at exit
 module _ (κs : Lfts 6) (a : Dens κs words-book-kinds.ps) where
   abbrev held : PrioritySeg
   held = priority_seg_in a.1.1.1.1.1.1.1.1.1.1.0.now a.0 a.1.0.now a.1.1.0 a.1.1.1.0.now a.1.1.1.1.0 a.1.1.1.1.1.0.now a.1.1.1.1.1.1.0.now
@@ -67,7 +67,7 @@ module _ (κs : Lfts 6) (a : Dens κs words-book-kinds.ps) where
 
 abbrev BookByWords : PrioritySeg → Date → Bundle → TxData → Booked → Type 0
 BookByWords r at b d x =
-    (κs : Lfts 6) × (a : Dens κs words-book-kinds.ps) × (e : Exit κs a) × (held κs a ≡ r) × (a.1.1.1.1.1.1.1.0 ≡ at) × (a.1.1.1.1.1.1.1.1.0 ≡ b) × (dates_in a.1.1.1.1.1.1.1.1.1.0.now ≡ d)
+    (κs : Lfts 6) × (a : Dens κs words-book-kinds.ps) × (e : Exit κs a) × (held κs a ≡ r) × (a.1.1.1.1.1.1.1.0 ≡ at) × (a.1.1.1.1.1.1.1.1.0 ≡ b) × (a.1.1.1.1.1.1.1.1.1.0.now ≡ d)
     × (words-book-reads.Post κs a x.number e) × (left κs a e ≡ x.manager)
 
 -- the trace program's booking: the kept dry run's refusal, and the record stays; or its send interval set to the priority
@@ -78,7 +78,7 @@ BookSet r at b d x =
     ⊎ ((refusal_of (strict_of r.contact) o d ≡ 0)
     × ((k : Set) × (Met (set_Reads.Post tt (r, (d.send, (b.priority, tt)))) k) × (x ≡ record { number = k.number; manager = record { contact = r.contact; bookings = k.bookings } }))))
 
--- every door: a total call lent, a kept one by value, a kept one over numbers, the trace program's
+-- every door: a total call lent, a kept one by value, a kept one over a record's parts, the trace program's
 abbrev Dry : PrioritySeg → Date → Bundle → Offer → Type 0
 Dry r at b o = (Answered (dry_run_of r at b) o) ⊎ ((Met (kept-dry-reads.Post tt (r, (at, (b, tt)))) o) ⊎ (DryByWords r at b o))
 

@@ -10,7 +10,7 @@ use borrow.Author.Tests.{lt-ltb}
 use lib.IntN.{ℤ, pos, ◌-ℤ◌, +ℤ_invr}
 use lib.Signed.{lt_z}
 use Rattle.units.specs.declared.Date.{Date}
-use Rattle.segmentation.specs.declared.End.TheVariants.{At}
+use Rattle.std.specs.Prelude.{Some}
 use Rattle.poly.specs.Search.{area_from, halve_of, find_end}
 use Rattle.poly.proofs.Crossing.{halves-after, halves-by, halves-reach, halves-tight, before-tight}
 use Rattle.poly.proofs.Ends.{found}
@@ -70,7 +70,7 @@ pub record Inside (a b x e : ℕ) : Type 0 where
   pub after : x < e
   pub by : e ≤ b
 
-module _ (cap : ℕ → ℤ) (a b x v : ℕ) (e : Date) (size : 1 ≤ v) (h : find_end cap a b x v ≡ At e) where
+module _ (cap : ℕ → ℤ) (a b x v : ℕ) (e : Date) (size : 1 ≤ v) (h : find_end cap a b x v ≡ Some e) where
   abbrev pub sent : ℕ → ℤ
   sent = area_from cap (cap x)
 

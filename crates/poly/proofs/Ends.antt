@@ -10,8 +10,7 @@ use lib.Signed.{lt_z}
 use Rattle.units.specs.declared.Date.{Date}
 use Rattle.units.specs.Logic.{both}
 use Rattle.units.proofs.Logic.{both-fst, both-snd, both_yes, both-stop, both-not, unless-go, unless-stop, unless-keeps, pick-keeps}
-use Rattle.segmentation.specs.declared.End.{End}
-use Rattle.segmentation.specs.declared.End.TheVariants.{At, None}
+use Rattle.std.specs.Prelude.{Option, Some, None}
 use Rattle.poly.specs.Search.{area_from, halve_of, find_end}
 
 module _ (cap : ℕ → ℤ) (a b x v : ℕ) where
@@ -35,9 +34,9 @@ module _ (cap : ℕ → ℤ) (a b x v : ℕ) where
     unfolding find_end
     find-short e = unless-go _ _ _ inside ∙ rw e
 
-    pub find-found : lt_z (area_from cap (cap x) b) (pos v) ≡ false → (e : Date) → e.0 ≡ halved → At e ≡ find_end cap a b x v
+    pub find-found : lt_z (area_from cap (cap x) b) (pos v) ≡ false → (e : Date) → e.0 ≡ halved → Some e ≡ find_end cap a b x v
     unfolding find_end
-    find-found s e is = ap (λ (n : ℕ). At (record { 0 = n })) is ∙ sym (unless-go _ _ _ inside ∙ rw s)
+    find-found s e is = ap (λ (n : ℕ). Some (record { 0 = n })) is ∙ sym (unless-go _ _ _ inside ∙ rw s)
 
   -- what an end tells
   pub record Found (e : Date) : Type 0 where
@@ -46,15 +45,15 @@ module _ (cap : ℕ → ℤ) (a b x v : ℕ) where
     pub enough : lt_z (area_from cap (cap x) b) (pos v) ≡ false
     pub is : e.0 ≡ halved
 
-  never : {X : Type 0} (e : Date) → ◌≡◌ {A = End} None (At e) → X
+  never : {X : Type 0} (e : Date) → ◌≡◌ {A = Option Date} None (Some e) → X
   never e h = let z : ◌≡◌ {A = ℕ} 0 1 = cc in absurd (omega arith)
 
-  pub found : (e : Date) → find_end cap a b x v ≡ At e → Found e
+  pub found : (e : Date) → find_end cap a b x v ≡ Some e → Found e
   unfolding find_end
   found e =
-      unless-keeps (λ (r : End). r ≡ At e → Found e) (both (leb a x) (ltb x b)) None _
+      unless-keeps (λ (r : Option Date). r ≡ Some e → Found e) (both (leb a x) (ltb x b)) None _
       (λ t h. never e h)
-      (λ t. pick-keeps (λ (r : End). r ≡ At e → Found e) (lt_z (area_from cap (cap x) b) (pos v)) None _
+      (λ t. pick-keeps (λ (r : Option Date). r ≡ Some e → Found e) (lt_z (area_from cap (cap x) b) (pos v)) None _
       (λ s h. never e h)
       (λ s h.
       let d : ◌≡◌ {A = Date} e (record { 0 = halved }) = cc in

@@ -7,7 +7,7 @@ use native.Mathlib.Omega.{arith}
 use lib.IntN.{ℤ, pos}
 use lib.Signed.{lt_z}
 use Rattle.units.specs.declared.Date.{Date}
-use Rattle.segmentation.specs.declared.End.TheVariants.{At}
+use Rattle.std.specs.Prelude.{Some}
 use Rattle.poly.specs.declared.Polynome.{Polynome}
 use Rattle.poly.specs.Poly.{capacity_to}
 use Rattle.poly.specs.Search.{area_from, find_end}
@@ -37,7 +37,7 @@ module _ (p : Polynome) where
     unfolding capacity_to rate_on
     capacity-rises always i j h k l = rises _ _ _ _ p.offset.0 a b never always i j h k l
 
-  module _ (a b x v : ℕ) (e : Date) (size : 1 ≤ v) (found : find_end (capacity_to 2 p) a b x (12 * v) ≡ At e) where
+  module _ (a b x v : ℕ) (e : Date) (size : 1 ≤ v) (found : find_end (capacity_to 2 p) a b x (12 * v) ≡ Some e) where
     some : 1 ≤ 12 * v
     some = omega arith
 

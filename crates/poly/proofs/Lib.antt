@@ -5,8 +5,7 @@ pub mod Ring
 pub mod Letters
 pub mod Sides
 pub mod Modes
-pub mod Turned
-pub mod Capped
+pub mod Limit
 pub mod Range
 pub mod Near
 pub mod Halving
@@ -17,5 +16,6 @@ pub mod EndLaws
 pub mod Slope
 pub mod Simpson
 pub mod ExactLaws
+pub mod Same
 pub mod Unique
 pub mod Cases

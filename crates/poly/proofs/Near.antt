@@ -6,23 +6,13 @@ use mir.Syntax.{w64}
 use mir.Val.{SFits}
 use Rattle.units.specs.declared.Interval.{Interval}
 use Rattle.poly.specs.declared.terms.Terms.{Terms}
-use Rattle.poly.specs.Poly.{step_max, coefficient}
+use Rattle.poly.specs.Poly.{step_max}
 use Rattle.poly.specs.Search.{area_from}
-use Rattle.poly.specs.Granted.{capacity_by, InRange, Ranged}
+use Rattle.poly.specs.Granted.{capacity_by, InRangeOf, farthest, Ranged}
 use Rattle.poly.proofs.Abs.{abs_diff, sfits, fits_sub}
 use Rattle.poly.proofs.Steps.{range_mono, horner-bound}
 
-abbrev pub InRangeOf : Terms → ℕ → Type 0
-InRangeOf t m = InRange (coefficient t.each 0) (coefficient t.each 1) (coefficient t.each 2) (coefficient t.each 3) m
-
 module _ (t : Terms) (w : Interval) (h : Ranged t w) (y : ℕ) (from : w.start.0 ≤ y) (to : y ≤ w.end.0) where
-  -- the date, as a signed number
-  pub date-fits : SFits w64 (pos y)
-  date-fits = sfits (pos y) (omega (arith, h.date))
-
-  pub offset-fits : SFits w64 (pos t.offset.0)
-  offset-fits = sfits (pos t.offset.0) (omega (arith, h.offset))
-
   pub distance-fits : SFits w64 (pos y -ℤ pos t.offset.0)
   distance-fits = fits_sub (pos y) (pos t.offset.0) (omega (arith, h.date)) (omega (arith, h.offset))
 
@@ -30,7 +20,7 @@ module _ (t : Terms) (w : Interval) (h : Ranged t w) (y : ℕ) (from : w.start.0
   pub range_at : InRangeOf t (nat_abs (pos y -ℤ pos t.offset.0))
   range_at =
       range_mono _ _ _ _
-      (abs_diff y t.offset.0 h.far (omega (arith, h.after)) (omega (arith, h.before)))
+      (abs_diff y t.offset.0 (farthest t w) (omega arith) (omega arith))
       h.range
 
   pub cap-bound : nat_abs (capacity_by t y) ≤ step_max

@@ -1,9 +1,8 @@
 -- 01, "Managers", Polynomial: the end search, whose steps decide where the capacity falls; over any capacity to a date, so 02's R-6 keeps it.
-use Rattle.std.specs.Prelude.{ℕ, zero, suc, ◌+◌, ◌-◌, ◌*◌, ◌/◌, leb, ltb, ℤ, pos, ◌-ℤ◌}
+use Rattle.std.specs.Prelude.{ℕ, zero, suc, ◌+◌, ◌-◌, ◌*◌, ◌/◌, leb, ltb, ℤ, pos, ◌-ℤ◌, Option, Some, None}
 use Rattle.std.specs.Int.Signed.{lt_z}
 use Rattle.units.specs.Logic.{both, pick, unless}
-use Rattle.segmentation.specs.declared.End.{End}
-use Rattle.segmentation.specs.declared.End.TheVariants.{At, None}
+use Rattle.units.specs.declared.Date.{Date}
 use Rattle.poly.specs.Poly.{exact}
 
 -- 02, R-6: the size v as the mode counts it: in mode 2 twelve times the size
@@ -28,8 +27,8 @@ halve_of (suc n) f t low top =
     (middle low top)))
 
 -- the end from x on in the free segment [a, b): none unless a <= x < b and the capacity from x to b suffices
-unfoldable pub find_end : (ℕ → ℤ) → ℕ → ℕ → ℕ → ℕ → End
+unfoldable pub find_end : (ℕ → ℤ) → ℕ → ℕ → ℕ → ℕ → Option Date
 find_end cap a b x v =
     unless (both (leb a x) (ltb x b)) None
     (pick (lt_z (area_from cap (cap x) b) (pos v)) None
-    (At (record { 0 = halve_of (b + 1 - x) (area_from cap (cap x)) (pos v) x (b + 1) })))
+    (Some (record { 0 = halve_of (b + 1 - x) (area_from cap (cap x)) (pos v) x (b + 1) })))

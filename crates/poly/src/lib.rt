@@ -1,21 +1,21 @@
 // The capacity polynomial (poly.rs: Polynome) in its two modes: its range rule, and its terms, over which the end is searched.
 #![tactic(auto)]
 
-ghost use Rattle.std.specs.Prelude.{◌≡◌, ◌+◌, ◌-◌, ◌*◌, ◌<◌, ◌≤◌, ◌^◌, min, nat_abs};
+ghost use Rattle.std.specs.Prelude.{◌≡◌, ◌+◌, ◌*◌, ◌<◌, ◌≤◌, nat_abs, is_some};
 ghost use Rattle.units.specs.Limits.{volume_max};
-ghost use Rattle.poly.specs.Poly.{step_max, term_of, range_ok, coefficients_ok, poly_ok};
+ghost use Rattle.poly.specs.Poly.{step_max, term_of, term, range_ok, far_of, coefficient_ok, coefficients_ok, poly_ok};
 ghost use Rattle.poly.specs.Search.{wanted_of};
-ghost use Rattle.poly.specs.Granted.{terms_of, Ranged};
+ghost use Rattle.poly.specs.Granted.{terms_of, in_limit, Ranged};
 
-use terms::Terms;
+use terms::{Terms, WindowTerms};
 use units::{Date, Interval, Volume};
 
-pub mod signed;
 pub mod terms;
 
 // How capacity is counted: 1 is the source's, 2 is the exact integral, in twelfths.
+// A number and no enum: it lies in C's records, where any number can stand (`choices_ok` of poly_seg).
 #[repr(C)]
-#[derive(Clone, Copy)]
+#[derive(Clone, Copy, PartialEq, Eq, Default)]
 pub struct Mode(pub u64);
 
 impl Mode {
@@ -27,14 +27,16 @@ impl Mode {
     pub const PARTS: u64 = 12;
 
     // A size as the mode counts it.
+    #[tactic(auto, unfolding(crate::specs::Search::wanted_of))]
     pub fn wanted(self, size: Volume) -> u64
         requires { size.0 ≤ volume_max }
         ensures { result ≡ wanted_of self.0 size.0 }
     {
         if self.0 == Mode::EXACT {
-            return Mode::PARTS * size.0;
+            Mode::PARTS * size.0
+        } else {
+            size.0
         }
-        size.0
     }
 
     // A coefficient over k, towards zero, or in the exact mode the parts of that, where they do not pass 2^61.
@@ -43,83 +45,46 @@ impl Mode {
         ensures { result ≡ term_of self.0 c k }
     {
         if self.0 == Mode::EXACT {
-            let n = signed::signed(Mode::PARTS / k);
-            return signed::mul(n, c);
+            (Mode::PARTS / k) as i64 * c
+        } else {
+            c / k as i64
         }
-        let n = signed::signed(k);
-        signed::div(c, n)
     }
 
-    // The magnitude of a coefficient's term; STEP_MAX + 1 stands for all that is larger.
-    fn magnitude(self, c: i64, k: u64) -> u64
+    // The magnitude of a coefficient's term, where it does not pass the limit of a step.
+    fn magnitude(self, c: i64, k: u64) -> Option<u64>
         requires { (0 < k) × (k < 5) }
-        ensures { result ≡ min (nat_abs (term_of self.0 c k)) (step_max + 1) }
+        ensures { result ≡ in_limit (nat_abs (term_of self.0 c k)) }
     {
-        let a = signed::magnitude(c);
+        let a = c.unsigned_abs();
         if self.0 == Mode::EXACT {
-            return mag_step(Mode::PARTS / k, a, 0);
+            step(Mode::PARTS / k, a, 0)
+        } else {
+            step(0, 0, a / k)
         }
-        mag_step(0, 0, a / k)
     }
 }
 
 #[repr(C)]
-#[derive(Clone, Copy)]
+#[derive(Clone, Copy, PartialEq, Eq, Default)]
 pub struct Polynome {
     pub coefficients: [i64; Polynome::COEFFICIENTS],
     pub offset: Date,
 }
 
-// One step of the range rule; STEP_MAX + 1 stands for all that is larger.
-fn mag_step(v: u64, m: u64, q: u64) -> u64
-    requires { (v ≤ step_max) × (q ≤ 2 ^ 63) }
-    ensures { result ≡ min (v * m + q) (step_max + 1) }
+// One step of the range rule, v * m + q, where it does not pass the limit.
+fn step(v: u64, m: u64, q: u64) -> Option<u64>
+    ensures { result ≡ in_limit (v * m + q) }
 {
-    if m != 0 {
-        if Polynome::STEP_MAX / m < v {
-            return Polynome::STEP_MAX + 1;
-        }
-    }
-    let p = v * m;
-    if Polynome::STEP_MAX < p + q {
-        return Polynome::STEP_MAX + 1;
-    }
-    p + q
+    let sum = v.checked_mul(m)?.checked_add(q)?;
+    (sum <= Polynome::STEP_MAX).then_some(sum)
 }
 
-// The range rule at a distance from the offset. The magnitudes come first: no step then asks for the mode, and one division serves all.
-fn in_range(mode: Mode, c0: i64, c1: i64, c2: i64, c3: i64, m: u64) -> bool
-    ensures { result ≡ range_ok (term_of mode.0 c0 1) (term_of mode.0 c1 2) (term_of mode.0 c2 3) (term_of mode.0 c3 4) m }
+// Is a coefficient inside its limits?
+fn coefficient_ok(c: i64) -> bool
+    ensures { result ≡ coefficient_ok c }
 {
-    let q3 = mode.magnitude(c3, 4);
-    let q2 = mode.magnitude(c2, 3);
-    let q1 = mode.magnitude(c1, 2);
-    let q0 = mode.magnitude(c0, 1);
-    let v3 = mag_step(0, m, q3);
-    if Polynome::STEP_MAX < v3 {
-        return false;
-    }
-    let v2 = mag_step(v3, m, q2);
-    if Polynome::STEP_MAX < v2 {
-        return false;
-    }
-    let v1 = mag_step(v2, m, q1);
-    if Polynome::STEP_MAX < v1 {
-        return false;
-    }
-    let v0 = mag_step(v1, m, q0);
-    if Polynome::STEP_MAX < v0 {
-        return false;
-    }
-    let last = mag_step(v0, m, 0);
-    last <= Polynome::STEP_MAX
-}
-
-// The distance between two dates.
-fn distance(a: Date, b: Date) -> u64
-    ensures { result ≡ (a.0 - b.0) + (b.0 - a.0) }
-{
-    if a.0 <= b.0 { b.0 - a.0 } else { a.0 - b.0 }
+    c.unsigned_abs() <= Polynome::COEFFICIENT_MAX
 }
 
 impl Polynome {
@@ -131,65 +96,65 @@ impl Polynome {
     pub const STEP_MAX: u64 = 1 << 61;
 
     // Is each coefficient inside its limits?
+    #[tactic(auto, unfolding(crate::specs::Poly::coefficients_ok, units::specs::Logic::both))]
     fn coefficients_ok(self) -> bool
         ensures { result ≡ coefficients_ok self.coefficients }
     {
-        let c0 = self.coefficients[0];
-        let c1 = self.coefficients[1];
-        let c2 = self.coefficients[2];
-        let c3 = self.coefficients[3];
-        if Polynome::COEFFICIENT_MAX < signed::magnitude(c0) {
-            return false;
-        }
-        if Polynome::COEFFICIENT_MAX < signed::magnitude(c1) {
-            return false;
-        }
-        if Polynome::COEFFICIENT_MAX < signed::magnitude(c2) {
-            return false;
-        }
-        signed::magnitude(c3) <= Polynome::COEFFICIENT_MAX
+        let [c0, c1, c2, c3] = self.coefficients;
+        coefficient_ok(c0) && coefficient_ok(c1) && coefficient_ok(c2) && coefficient_ok(c3)
+    }
+
+    // The last step of the range rule at a distance from the offset, where no step passes the limit.
+    fn steps(self, mode: Mode, m: u64) -> Option<u64>
+        ensures { is_some result ≡ range_ok (term mode.0 self 0) (term mode.0 self 1) (term mode.0 self 2) (term mode.0 self 3) m }
+    {
+        let [c0, c1, c2, c3] = self.coefficients;
+        let v3 = mode.magnitude(c3, 4)?;
+        let q2 = mode.magnitude(c2, 3)?;
+        let q1 = mode.magnitude(c1, 2)?;
+        let q0 = mode.magnitude(c0, 1)?;
+        let v2 = step(v3, m, q2)?;
+        let v1 = step(v2, m, q1)?;
+        let v0 = step(v1, m, q0)?;
+        step(v0, m, 0)
+    }
+
+    // The largest distance of a window end from the offset.
+    fn far(self, window: Interval) -> u64
+        ensures { result ≡ far_of self window }
+    {
+        let a = window.start.0.abs_diff(self.offset.0);
+        let b = window.end.0.abs_diff(self.offset.0);
+        a.max(b)
     }
 
     // Are the offset and the coefficients inside their limits, and the polynomial inside its mode's range rule over the window?
+    #[tactic(auto, unfolding(crate::specs::Poly::poly_ok, units::specs::Logic::both))]
     pub fn ok(self, mode: Mode, window: Interval) -> bool
         ensures { result ≡ poly_ok mode.0 self window }
     {
-        let start = window.start;
-        let end = window.end;
-        let offset = self.offset;
-        if Date::MAX < offset.0 {
-            return false;
-        }
-        if !self.coefficients_ok() {
-            return false;
-        }
-        let a = distance(start, offset);
-        let b = distance(end, offset);
-        let far = if a <= b { b } else { a };
-        let c0 = self.coefficients[0];
-        let c1 = self.coefficients[1];
-        let c2 = self.coefficients[2];
-        let c3 = self.coefficients[3];
-        in_range(mode, c0, c1, c2, c3, far)
+        self.offset.0 <= Date::MAX
+            && self.coefficients_ok()
+            && self.steps(mode, self.far(window)).is_some()
     }
 
     // The terms as the mode counts them, of a polynomial that is inside its range over the window.
-    pub fn terms(self, mode: Mode, window: Interval) -> Terms
+    pub fn terms(self, mode: Mode, window: Interval) -> WindowTerms
         requires { Ranged (terms_of mode.0 self) window }
-        ensures { result ≡ terms_of mode.0 self }
+        ensures terms { result.terms ≡ terms_of mode.0 self }
+        ensures window { result.window ≡ window }
     {
-        let c0 = self.coefficients[0];
-        let c1 = self.coefficients[1];
-        let c2 = self.coefficients[2];
-        let c3 = self.coefficients[3];
-        let t0 = mode.term(c0, 1);
-        let t1 = mode.term(c1, 2);
-        let t2 = mode.term(c2, 3);
-        let t3 = mode.term(c3, 4);
-        let each = [t0, t1, t2, t3];
-        Terms {
-            each: each,
+        let [c0, c1, c2, c3] = self.coefficients;
+        let each = [
+            mode.term(c0, 1),
+            mode.term(c1, 2),
+            mode.term(c2, 3),
+            mode.term(c3, 4),
+        ];
+        let terms = Terms {
+            each,
             offset: self.offset,
-        }
+        };
+        WindowTerms { terms, window }
     }
 }

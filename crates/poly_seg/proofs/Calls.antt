@@ -1,4 +1,5 @@
 -- Each call by what its tests tell: the dry run is what is chosen, and a booking goes by that answer.
+use Rattle.std.specs.Prelude.{Option, Some, None}
 use Prim.Native.Nat.{ℕ, ◌≤◌}
 use mathlib.Core.Bool.{Bool, true, false}
 use mathlib.Core.Path.{◌≡◌, refl, sym, ap, ◌∙◌}
@@ -16,8 +17,8 @@ use Rattle.units.specs.Granted.{refusal_of}
 use Rattle.units.proofs.Logic.{unless-go, unless-stop}
 use Rattle.units.proofs.Booking.{refusal-none}
 use Rattle.units.proofs.Loads.{asked-load, load}
-use Rattle.free_list.specs.declared.Found.{Found}
-use Rattle.free_list.specs.declared.Found.TheVariants.{At, None}
+use Rattle.free_list.specs.Offer.{fit_at}
+use Rattle.free_list.specs.declared.Fit.{Fit}
 use Rattle.free_list.specs.Cut.{list_in}
 use Rattle.free_list.specs.Granted.{Inside, none_chosen, chosen_at, chosen_in}
 use Rattle.free_list.proofs.CutList.{cut-number}
@@ -41,17 +42,17 @@ module _ (r : PolySeg) where
   list_done e = unless-go _ _ _ e
 
   -- a dry run answers what is chosen
-  same-offer : (c : Bool) (f : Found) → (chosen_in c (delays_at r) f).offer ≡ unless c (refused 2) (answer_to r f)
-  same-offer true (At i send) = refl
+  same-offer : (c : Bool) (f : Option Fit) → (chosen_in c (delays_at r) f).offer ≡ unless c (refused 2) (answer_to r f)
+  same-offer true (Some x) = refl
   same-offer true None = refl
   same-offer false f = refl
 
 -- a booking's own numbers are 0, 9 and 10
 module _ (r : PolySeg) (n : ℕ) (other : (n ≡ 0 → ⊥) × (n ≡ 9 → ⊥) × (n ≡ 10 → ⊥)) where
-  pub booked-number : (f : Found) → (booked_at r f).number ≡ n → ⊥
-  booked-number (At i send) h =
-      ⊎_elim (λ (z : (cut_free r i send).number ≡ 0). other.0 (sym h ∙ z)) (λ (z : (cut_free r i send).number ≡ 10). other.2 (sym h ∙ z))
-      (cut-number 1 [] r.free i send.start.0 send.end.0 0)
+  pub booked-number : (f : Option Fit) → (booked_at r f).number ≡ n → ⊥
+  booked-number (Some x) h =
+      ⊎_elim (λ (z : (cut_free r x.place x.send).number ≡ 0). other.0 (sym h ∙ z)) (λ (z : (cut_free r x.place x.send).number ≡ 10). other.2 (sym h ∙ z))
+      (cut-number 1 [] r.free x.place x.send.start.0 x.send.end.0 0)
   booked-number None h = other.1 (sym h)
 
 module _ (r : PolySeg) (at : Date) (b : Bundle) where
@@ -63,7 +64,7 @@ module _ (r : PolySeg) (at : Date) (b : Bundle) where
   unfolding book_of
   book-record d e = unless-stop _ _ _ e
 
-  abbrev found : Found
+  abbrev found : Option Fit
   found = found_of r at.0 b.size.0
 
   abbrev refuse : ℕ → Booked
@@ -73,7 +74,7 @@ module _ (r : PolySeg) (at : Date) (b : Bundle) where
   unfolding chosen_of
   chosen-bundle e = chosen-stop (bundle_ok at b) (delays_at r) found e
 
-  pub chosen-as : {f : Found} → bundle_ok at b ≡ true → found_of r at.0 b.size.0 ≡ f → chosen_of r at b ≡ chosen_at (delays_at r) f
+  pub chosen-as : {f : Option Fit} → bundle_ok at b ≡ true → found_of r at.0 b.size.0 ≡ f → chosen_of r at b ≡ chosen_at (delays_at r) f
   unfolding chosen_of
   chosen-as q e = by-found (bundle_ok at b) (delays_at r) found q e
 
@@ -102,7 +103,7 @@ module _ (r : PolySeg) (at : Date) (b : Bundle) where
         unfolding chosen_of
         chosen-some = (load b (asked-load at b (table_fits (bundle_ok at b) (delays_at r) found (strict_of r) d refuse (booked_at r) shows))).some
 
-        pub chosen-found : found_of r at.0 b.size.0 ≡ At (chosen_of r at b).place d.send
+        pub chosen-found : found_of r at.0 b.size.0 ≡ fit_at (chosen_of r at b).place d.send
         unfolding chosen_of
         chosen-found = table-found (bundle_ok at b) (delays_at r) found (strict_of r) d refuse (booked_at r) shows
 

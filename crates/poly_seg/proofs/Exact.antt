@@ -1,4 +1,5 @@
 -- 02, R-6, of the manager's offers: in mode 2 a send carries exactly the size, or it carries more and one tick earlier it carries less; and where its end is the first tick.
+use Rattle.std.specs.Prelude.{Some}
 use Prim.Native.Nat.{ℕ, ◌*◌, ◌≤◌}
 use mathlib.Core.Bool.{true}
 use mathlib.Core.Path.{◌≡◌}
@@ -10,9 +11,8 @@ use Rattle.units.specs.declared.Interval.{Interval}
 use Rattle.units.specs.declared.TxData.{TxData}
 use Rattle.units.specs.Answer.{offers}
 use Rattle.segmentation.specs.declared.VolumeSegment.{VolumeSegment}
-use Rattle.segmentation.specs.declared.End.TheVariants.{At as ends_at}
 use Rattle.contact.specs.Segments.{zero_volume}
-use Rattle.free_list.specs.declared.Found.TheVariants.{At}
+use Rattle.free_list.specs.Offer.{fit_at}
 use Rattle.free_list.specs.Cut.{listed}
 use Rattle.free_list.proofs.Offered.{AtPlace, place-get, listed_at}
 use Rattle.poly.specs.Poly.{capacity_to}
@@ -32,10 +32,10 @@ use Rattle.poly_seg.proofs.Picked.{Picked, offer-picked}
 record Ended (r : PolySeg) (v : ℕ) (send : Interval) (g : VolumeSegment) : Type 0 where
   from : r.window.start.0 ≤ g.start.0
   to : g.end.0 ≤ r.window.end.0
-  ends : find_end (capacity_to 2 r.polynome) g.start.0 g.end.0 send.start.0 (12 * v) ≡ ends_at send.end
+  ends : find_end (capacity_to 2 r.polynome) g.start.0 g.end.0 send.start.0 (12 * v) ≡ Some send.end
 
 module _ (r : PolySeg) (mode : r.choices.mode.0 ≡ 2) where
-  module _ (q : Facts r) (t v : ℕ) (size : 1 ≤ v) (i : ℕ) (send : Interval) (h : found_of r t v ≡ At i send) where
+  module _ (q : Facts r) (t v : ℕ) (size : 1 ≤ v) (i : ℕ) (send : Interval) (h : found_of r t v ≡ fit_at i send) where
     ended : AtPlace (Ended r v send) (listed r.free) i
     ended =
         listed_at (Picked (capacity_of r) t (size_of r v) send) (Ended r v send) _ _ _ (listed r.free) i

@@ -1,25 +1,26 @@
 -- What a record that passes its test is, and what an offer made on it is.
 use Prim.Native.Nat.{ℕ, zero, suc, ◌<◌, ◌≤◌}
-use mathlib.Core.Bool.{true, false}
-use mathlib.Core.Path.{◌≡◌, ◌∙◌}
+use mathlib.Core.Bool.{Bool, true, false}
+use mathlib.Core.Path.{◌≡◌, refl}
 use mathlib.Core.List.{List, [], ◌∷◌}
 use native.Mathlib.Omega.{arith}
-use lib.ListN.{length, drop, get_or, length-take}
-use lib.Seq.{get_or-take}
+use lib.Dec.{leb, eqb}
+use lib.ListN.{length, drop, get_or}
 use borrow.Author.Tests.{le-leb, eqb-true, eq-eqb, ne_eqb}
 use Rattle.units.specs.declared.Interval.{Interval}
 use Rattle.units.specs.Logic.{both, all_of}
 use Rattle.units.specs.Limits.{date_max, segments_max, listed_max}
 use Rattle.units.proofs.Logic.{both_go, both-stop, both-fst, both-snd, both_yes}
-use Rattle.units.proofs.Counted.{counted, counted-some, counted-most, counted-holds}
+use Rattle.units.proofs.Counted.{counted-some, counted-most, counted-holds}
 use Rattle.units.proofs.Windows.{Window, window}
 use Rattle.segmentation.specs.declared.VolumeSegment.{VolumeSegment}
 use Rattle.segmentation.specs.Granted.{AllShort}
-use Rattle.contact.specs.Segments.{delay_span, spans, zero_volume, no_volume, no_delay}
+use Rattle.contact.specs.Segments.{delay_span, spans, no_volume, no_delay}
 use Rattle.contact.specs.Boundary.{Received}
 use Rattle.contact.proofs.Boundary.{received}
 use Rattle.contact.proofs.Lookup.{Answers, window-finds, finds-answer}
-use Rattle.free_list.specs.declared.Found.TheVariants.{At}
+use Rattle.free_list.specs.Offer.{fit_at}
+use Rattle.free_list.specs.declared.FreeList.{FreeList}
 use Rattle.free_list.specs.Granted.{Inside}
 use Rattle.free_list.specs.Listed.{list_ok}
 use Rattle.free_list.specs.Cut.{listed}
@@ -33,12 +34,18 @@ use Rattle.poly.proofs.EndLaws.{find-end-inside}
 use Rattle.poly.proofs.Modes.{wanted-some}
 use Rattle.poly_seg.specs.declared.PolySeg.{PolySeg}
 use Rattle.poly_seg.specs.Open.{open_of}
+use Rattle.poly_seg.specs.Granted.{figures_ok, free_ok}
 use Rattle.poly_seg.specs.Record.{rule_of, delay_list, delays_at, answer_in, record_ok}
 use Rattle.poly_seg.specs.DryRun.{capacity_of, size_of, found_of}
 use Rattle.poly_seg.proofs.Lookup.{delays-most, delays-short, delays-cover}
 use Rattle.poly_seg.proofs.NoRates.{bare-here}
 use Rattle.poly_seg.proofs.Picked.{Picked, offer-picked}
 use Rattle.poly_seg.proofs.Opening.{Passed, open-passed, open-zero}
+
+together : (a b c : Bool) → both a (both b c) ≡ both (both a b) c
+unfolding both
+together true b c = refl
+together false b c = refl
 
 -- The record's test, test by test.
 module _ (r : PolySeg) where
@@ -48,20 +55,34 @@ module _ (r : PolySeg) where
   abbrev pub number_of : ℕ
   number_of = (open_of r.choices r.window r.polynome r.delays r.delay_count).number
 
-  pub record-refused : (number_of ≡ 0 → ⊥) → record_ok r ≡ false
-  unfolding record_ok
-  record-refused some = both-stop _ _ (ne_eqb _ _ some)
+  -- in its two parts
+  pub record-is : record_ok r ≡ both (figures_ok r) (free_ok r.window r.free)
+  unfolding record_ok figures_ok free_ok
+  record-is = together (eqb number_of 0) _ _
 
-  module _ (h : number_of ≡ 0) where
-    pub record-delayed : all_of no_delay (drop r.delay_count r.delays) ≡ false → record_ok r ≡ false
-    unfolding record_ok
-    record-delayed e = both_go _ _ (eq-eqb _ _ h) ∙ both-stop _ _ e
+  module _ (h : figures_ok r ≡ true) where
+    pub figures-open : number_of ≡ 0
+    unfolding figures_ok
+    figures-open = eqb-true _ _ (both-fst _ _ h)
 
-    pub record-listed : all_of no_delay (drop r.delay_count r.delays) ≡ true
-        → record_ok r ≡ counted listed_max r.free.count
-        (both (list_ok [] r.window.start.0 r.window.end.0 (listed r.free)) (all_of no_volume (drop r.free.count r.free.segments)))
-    unfolding record_ok
-    record-listed e = both_go _ _ (eq-eqb _ _ h) ∙ both_go _ _ e
+    pub figures-passed : Opens
+    figures-passed = open-passed _ _ _ _ _ figures-open
+
+-- the count, then the list
+pub free-counted : (w : Interval) (f : FreeList)
+    → free_ok w f ≡ both (both (leb 1 f.count) (leb f.count listed_max)) (both (list_ok [] w.start.0 w.end.0 (listed f)) (all_of no_volume (drop f.count f.segments)))
+unfolding free_ok
+free-counted w f = together (leb 1 f.count) _ _
+
+-- the parts of the figures' test
+module _ (r : PolySeg) where
+  pub figures-refused : ((open_of r.choices r.window r.polynome r.delays r.delay_count).number ≡ 0 → ⊥) → figures_ok r ≡ false
+  unfolding figures_ok
+  figures-refused some = both-stop _ _ (ne_eqb _ _ some)
+
+  pub figures-rest : (open_of r.choices r.window r.polynome r.delays r.delay_count).number ≡ 0 → figures_ok r ≡ all_of no_delay (drop r.delay_count r.delays)
+  unfolding figures_ok
+  figures-rest h = both_go _ _ (eq-eqb _ _ h)
 
 pub record Facts (r : PolySeg) : Type 0 where
   pub test : Opens r
@@ -109,19 +130,13 @@ record-kept r h u k =
     (both_yes _ _ (le-leb _ _ k.some) (both_yes _ _ (le-leb _ _ k.few) (both_yes _ _ k.rules k.unused))))
 
 -- each listed segment is in the window
-listed-inside : (l : List VolumeSegment) (n hi : ℕ) (f : List VolumeSegment) (i : ℕ) (z : VolumeSegment) → i < length f → Listed l n hi f
+pub listed-inside : (l : List VolumeSegment) (n hi : ℕ) (f : List VolumeSegment) (i : ℕ) (z : VolumeSegment) → i < length f → Listed l n hi f
     → (n ≤ (get_or f i z).start.0) × ((get_or f i z).end.0 ≤ hi)
 unfolding Listed
 listed-inside l n hi [] i z h q = absurd (omega arith)
 listed-inside l n hi (g ∷ f) zero z h q = (q.0, q.2)
 listed-inside l n hi (g ∷ f) (suc i) z h q =
     let k = listed-inside l (suc g.end.0) hi f i z (omega arith) q.4 in (omega (arith, q.0, q.1, k.0), k.1)
-
-pub free-inside : (r : PolySeg) → Facts r → r.free.count ≤ length r.free.segments → (i : ℕ) → i < r.free.count
-    → (r.window.start.0 ≤ (get_or r.free.segments i zero_volume).start.0) × ((get_or r.free.segments i zero_volume).end.0 ≤ r.window.end.0)
-free-inside r q room i lt =
-    let len : i < length (listed r.free) = simp length-take (omega arith) in
-    rw (get_or-take r.free.count r.free.segments i zero_volume lt) at (listed-inside _ _ _ _ i zero_volume len q.free)
 
 -- the segment holds the send, which is not before the asked time and not of zero length
 record Sent (t : ℕ) (send : Interval) (g : VolumeSegment) : Type 0 where
@@ -130,7 +145,7 @@ record Sent (t : ℕ) (send : Interval) (g : VolumeSegment) : Type 0 where
   after : send.start.0 < send.end.0
   by : send.end.0 ≤ g.end.0
 
-module _ (r : PolySeg) (q : Facts r) (t v : ℕ) (pos : 1 ≤ v) (i : ℕ) (send : Interval) (h : found_of r t v ≡ At i send) where
+module _ (r : PolySeg) (q : Facts r) (t v : ℕ) (pos : 1 ≤ v) (i : ℕ) (send : Interval) (h : found_of r t v ≡ fit_at i send) where
   found_at : AtPlace (Sent t send) (listed r.free) i
   found_at =
       listed_at (Picked (capacity_of r) t (size_of r v) send) (Sent t send) [] _ _ (listed r.free) i

@@ -19,7 +19,7 @@ use Rattle.units.proofs.Windows.{window}
 use Rattle.units.proofs.Arrays.{take-padded, unused-padded}
 use Rattle.segmentation.specs.declared.DelaySegment.{DelaySegment}
 use Rattle.contact.specs.Segments.{zero_delay, no_delay}
-use Rattle.free_list.specs.declared.Found.TheVariants.{At}
+use Rattle.free_list.specs.Offer.{fit_at}
 use Rattle.free_list.specs.Cut.{listed, list_in, cut_of, list_cut, whole_window}
 use Rattle.free_list.proofs.ListedLaws.{Listed}
 use Rattle.free_list.proofs.Offered.{offered-at}
@@ -81,7 +81,7 @@ pub record Refused (r : PolySeg) (a : Booked) : Type 0 where
 pub record Accepted (r : PolySeg) (at : Date) (b : Bundle) (d : TxData) (a : Booked) : Type 0 where
   pub some : 1 ≤ b.size.0
   pub place : ℕ
-  pub found : found_of r at.0 b.size.0 ≡ At place d.send
+  pub found : found_of r at.0 b.size.0 ≡ fit_at place d.send
   pub few : length (cut_of 1 [] (listed r.free) place d.send.start.0 d.send.end.0 0) ≤ listed_max
   pub number : a.number ≡ 0
   pub manager : a.manager ≡ with_free r (list_in (cut_of 1 [] (listed r.free) place d.send.start.0 d.send.end.0 0))

@@ -1,3 +1,4 @@
+pub mod Told
 pub mod Lookup
 pub mod NoRates
 pub mod Picked

@@ -1,4 +1,5 @@
 -- By rule 2 no call of the polynomial manager answers 8: the delays of a record that keeps its rules cover the window. By rule 1 it can.
+use Rattle.std.specs.Prelude.{Option, Some, None}
 use Prim.Native.Nat.{ℕ}
 use mathlib.Core.Bool.{true}
 use mathlib.Core.Path.{◌≡◌, refl}
@@ -13,8 +14,7 @@ use Rattle.units.specs.Strict.{forbids}
 use Rattle.units.proofs.Logic.{unless-keeps}
 use Rattle.units.proofs.Booking.{dry-run-keeps, booking-keeps}
 use Rattle.units.proofs.Loads.{asked-load, load}
-use Rattle.free_list.specs.declared.Found.{Found}
-use Rattle.free_list.specs.declared.Found.TheVariants.{At, None}
+use Rattle.free_list.specs.declared.Fit.{Fit}
 use Rattle.poly_seg.specs.declared.PolySeg.{PolySeg}
 use Rattle.poly_seg.specs.declared.Booked.{Booked}
 use Rattle.poly_seg.specs.declared.Listing.{Listing}
@@ -29,8 +29,8 @@ abbrev Not8 : ℕ → Type 0
 Not8 n = n ≡ 8 → ⊥
 
 module _ (r : PolySeg) (at : Date) (b : Bundle) where
-  answer-never-8 : rule_of r ≡ 2 → record_ok r ≡ true → bundle_ok at b ≡ true → (f : Found) → found_of r at.0 b.size.0 ≡ f → Not8 (answer_to r f).number
-  answer-never-8 two ok fits (At i send) e h = omega (arith, h, (found-answers r (facts r ok) at.0 b.size.0 (load b (asked-load at b fits)).some i send e two).number)
+  answer-never-8 : rule_of r ≡ 2 → record_ok r ≡ true → bundle_ok at b ≡ true → (f : Option Fit) → found_of r at.0 b.size.0 ≡ f → Not8 (answer_to r f).number
+  answer-never-8 two ok fits (Some x) e h = omega (arith, h, (found-answers r (facts r ok) at.0 b.size.0 (load b (asked-load at b fits)).some x.place x.send e two).number)
   answer-never-8 two ok fits None e h = omega arith
 
   pub dry-never-8 : rule_of r ≡ 2 → Not8 (dry_run_of r at b).number

@@ -26,8 +26,8 @@ zero_test v =
     (eq-or-ne v 0)
 
 -- no volume is within no capacity
-pub bare-test : (v a b : ℕ) → leb v (capacity [] a b) ≡ eqb v 0
-bare-test v a b = ap (leb v) (no-capacity a b) ∙ zero_test v
+pub bare_test : (v a b : ℕ) → leb v (capacity [] a b) ≡ eqb v 0
+bare_test v a b = ap (leb v) (no-capacity a b) ∙ zero_test v
 
 -- a segment in its turn ends in the window
 pub segment-by : (low hi : ℕ) (g : VolumeSegment) → segment_ok [] low hi g ≡ true → g.end.0 ≤ hi

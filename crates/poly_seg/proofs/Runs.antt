@@ -1,4 +1,5 @@
 -- After any calls from an opening on: the record keeps its rules, so no call on it answers 1; its window, polynomial, delays and choices are those that were opened.
+use Rattle.std.specs.Prelude.{Option, Some, None}
 use Prim.Native.Nat.{ℕ}
 use mathlib.Core.Bool.{true}
 use mathlib.Core.Path.{◌≡◌, refl, sym, ap, ◌∙◌}
@@ -19,8 +20,7 @@ use Rattle.units.proofs.Tables.{tables-never}
 use Rattle.segmentation.specs.declared.DelaySegment.{DelaySegment}
 use Rattle.segmentation.proofs.Answered.{answer-number as answered-number}
 use Rattle.contact.specs.Segments.{zero_delay}
-use Rattle.free_list.specs.declared.Found.{Found}
-use Rattle.free_list.specs.declared.Found.TheVariants.{At, None}
+use Rattle.free_list.specs.declared.Fit.{Fit}
 use Rattle.poly.specs.declared.Polynome.{Polynome}
 use Rattle.poly_seg.specs.declared.Choices.{Choices}
 use Rattle.poly_seg.specs.declared.PolySeg.{PolySeg}
@@ -62,8 +62,8 @@ run-figures x y ok runs =
     x y (ok, refl) runs
 
 -- an answer's own numbers are 0, 7 and 8
-answer-number : (r : PolySeg) (n : ℕ) → (n ≡ 0 → ⊥) × (n ≡ 7 → ⊥) × (n ≡ 8 → ⊥) → (f : Found) → (answer_to r f).number ≡ n → ⊥
-answer-number r n other (At i send) h = answered-number n (other.0, other.2) _ _ (delays_at r send.start.0 send.end.0) h
+answer-number : (r : PolySeg) (n : ℕ) → (n ≡ 0 → ⊥) × (n ≡ 7 → ⊥) × (n ≡ 8 → ⊥) → (f : Option Fit) → (answer_to r f).number ≡ n → ⊥
+answer-number r n other (Some x) h = answered-number n (other.0, other.2) _ _ (delays_at r x.send.start.0 x.send.end.0) h
 answer-number r n other None h = other.1 (sym h)
 
 -- no call on a record that keeps its rules answers 1

@@ -1,4 +1,5 @@
 -- 02, R-7, of the polynomial manager's promises: every other call answers, and alters the record, as with the flag off; 17 is out of reach.
+use Rattle.std.specs.Prelude.{Option, Some, None}
 use Prim.Native.Nat.{ℕ}
 use mathlib.Core.Path.{◌≡◌, refl}
 use mathlib.Core.List.{List}
@@ -18,8 +19,7 @@ use Rattle.units.proofs.Determined.{Met}
 use Rattle.units.proofs.Forbids.{forbidden-zero, only-forbidden}
 use Rattle.units.proofs.Twin.{tables-twins}
 use Rattle.segmentation.specs.declared.DelaySegment.{DelaySegment}
-use Rattle.free_list.specs.declared.Found.{Found}
-use Rattle.free_list.specs.declared.Found.TheVariants.{At, None}
+use Rattle.free_list.specs.declared.Fit.{Fit}
 use Rattle.poly.specs.declared.Polynome.{Polynome}
 use Rattle.poly.specs.Poly.{poly_ok}
 use Rattle.poly_seg.specs.declared.Choices.{Choices}
@@ -89,12 +89,12 @@ module _ (r : PolySeg) where
   unfolding list_of
   list-twin = rw record-twin
 
-  booked-twin : (f : Found) → booked_at (flagged 1 r) f ≡ turned 1 (booked_at (flagged 0 r) f)
-  booked-twin (At i send) = refl
+  booked-twin : (f : Option Fit) → booked_at (flagged 1 r) f ≡ turned 1 (booked_at (flagged 0 r) f)
+  booked-twin (Some x) = refl
   booked-twin None = refl
 
-  answer-twin : (f : Found) → answer_to (flagged 1 r) f ≡ answer_to (flagged 0 r) f
-  answer-twin (At i send) = refl
+  answer-twin : (f : Option Fit) → answer_to (flagged 1 r) f ≡ answer_to (flagged 0 r) f
+  answer-twin (Some x) = refl
   answer-twin None = refl
 
 -- 02's sentence

@@ -1,6 +1,13 @@
 -- Each call's promise determines its answer and the record. `Post` is the reading of the contract in src/.
 use Prim.Native.Nat.{ℕ}
-use mathlib.Core.Path.{sym, ◌∙◌}
+use contract.Lifetimes.{Lfts}
+use mathlib.Core.Bool.{true, false}
+use mathlib.Core.Path.{◌≡◌, sym, ◌∙◌}
+use lib.ListN.{take}
+use Rattle.std.proofs.Common.{Bor, Option, option_map}
+use Rattle.units.proofs.Logic.{no_both}
+use Rattle.contact.proofs.Told.{lent-once}
+use Rattle.poly_seg.specs.Open.{delays_ok, delays_by}
 use mathlib.Core.List.{List}
 use Rattle.units.specs.declared.Date.{Date}
 use Rattle.units.specs.declared.Interval.{Interval}
@@ -11,7 +18,7 @@ use Rattle.segmentation.specs.declared.VolumeSegment.{VolumeSegment}
 use Rattle.segmentation.specs.declared.Rule.{Rule}
 use Rattle.segmentation.specs.declared.DelaySegment.{DelaySegment}
 use Rattle.poly.specs.declared.Polynome.{Polynome}
-use Rattle.poly.specs.declared.terms.Terms.{Terms}
+use Rattle.poly.specs.declared.terms.WindowTerms.{WindowTerms}
 use Rattle.poly_seg.specs.declared.Choices.{Choices}
 use Rattle.poly_seg.specs.declared.PolySeg.{PolySeg}
 use Rattle.poly_seg.proofs.Choices.ported.Reads as ported-reads
@@ -22,6 +29,7 @@ use Rattle.poly_seg.proofs.delays_by.Reads as delays-by-reads
 use Rattle.poly_seg.proofs.bare_segment.Reads as bare-segment-reads
 use Rattle.poly_seg.proofs.bare_ok.Reads as bare-ok-reads
 use Rattle.poly_seg.proofs.end_in.Reads as end-in-reads
+use Rattle.poly_seg.proofs.find_offer.Reads as find-offer-reads
 use Rattle.poly_seg.proofs.PolySeg.open.Reads as open-reads
 use Rattle.poly_seg.proofs.PolySeg.ok.Reads as ok-reads
 use Rattle.poly_seg.proofs.PolySeg.chosen.Reads as chosen-reads
@@ -41,20 +49,30 @@ choices-ok-unique h r q x y f g = f ∙ sym g
 pub delay-ok-unique : (s : DelaySegment) → Determined (delay-ok-reads.Post tt (s, tt))
 delay-ok-unique s r q x y f g = f ∙ sym g
 
-pub delays-ok-unique : (delays : List DelaySegment) (k : ℕ) → Determined (delays-ok-reads.Post tt (delays, (k, tt)))
-delays-ok-unique delays k r q x y f g = f ∙ sym g
+-- of a list that is lent back: whether, and which
+module _ (lf : Lfts 1) (delays : Bor (List DelaySegment)) (k : ℕ) where
+  pub delays-ok-unique : (r q : Option (Bor (List DelaySegment))) (x y : _) → delays-ok-reads.Post lf (delays, (k, tt)) r x → delays-ok-reads.Post lf (delays, (k, tt)) q y
+      → option_map (λ l. l.now) r ≡ option_map (λ l. l.now) q
+  delays-ok-unique r q x y f g =
+      lent-once (delays_ok k delays.now ≡ false) (λ l. (delays_ok k delays.now ≡ true) × (l.now ≡ take k delays.now)) (λ l a b. no_both b.0 a) (λ l k a b. a.1 ∙ sym b.1) r q f g
 
-pub delays-by-unique : (rule : Rule) (w : Interval) (delays : List DelaySegment) (k : ℕ) → Determined (delays-by-reads.Post tt (rule, (w, (delays, (k, tt)))))
-delays-by-unique rule w delays k r q x y f g = f ∙ sym g
+  pub delays-by-unique : (rule : Rule) (w : Interval) (r q : Option (Bor (List DelaySegment))) (x y : _)
+      → delays-by-reads.Post lf (rule, (w, (delays, (k, tt)))) r x → delays-by-reads.Post lf (rule, (w, (delays, (k, tt)))) q y
+      → option_map (λ l. l.now) r ≡ option_map (λ l. l.now) q
+  delays-by-unique rule w r q x y f g =
+      lent-once (delays_by rule.0 w k delays.now ≡ false) (λ l. (delays_by rule.0 w k delays.now ≡ true) × (l.now ≡ take k delays.now)) (λ l a b. no_both b.0 a) (λ l k a b. a.1 ∙ sym b.1) r q f g
 
 pub bare-segment-unique : (s : VolumeSegment) (low hi : Date) → Determined (bare-segment-reads.Post tt (s, (low, (hi, tt))))
 bare-segment-unique s low hi r q x y f g = f ∙ sym g
 
-pub bare-ok-unique : (segments : List VolumeSegment) (n : ℕ) (w : Interval) → Determined (bare-ok-reads.Post tt (segments, (n, (w, tt))))
-bare-ok-unique segments n w r q x y f g = f ∙ sym g
+pub bare-ok-unique : (lf : Lfts 1) (segments : Bor (List VolumeSegment)) (w : Interval) → Determined (bare-ok-reads.Post lf (segments, (w, tt)))
+bare-ok-unique lf segments w r q x y f g = f ∙ sym g
 
-pub end-in-unique : (w : Interval) (t : Terms) (g : VolumeSegment) (asked : Date) (size : ℕ) → Determined (end-in-reads.Post tt (w, (t, (g, (asked, (size, tt))))))
-end-in-unique w t g asked size r q x y f g' = f ∙ sym g'
+pub end-in-unique : (t : WindowTerms) (g : VolumeSegment) (asked : Date) (size : ℕ) → Determined (end-in-reads.Post tt (t, (g, (asked, (size, tt)))))
+end-in-unique t g asked size r q x y f g' = f ∙ sym g'
+
+pub find-offer-unique : (lf : Lfts 1) (t : WindowTerms) (free : Bor (List VolumeSegment)) (asked : Date) (size : ℕ) → Determined (find-offer-reads.Post lf (t, (free, (asked, (size, tt)))))
+find-offer-unique lf t free asked size r q x y f g = f ∙ sym g
 
 pub open-unique : (h : Choices) (w : Interval) (p : Polynome) (delays : List DelaySegment) (k : ℕ) → Determined (open-reads.Post tt (h, (w, (p, (delays, (k, tt))))))
 open-unique h w p delays k r q x y f g = f ∙ sym g

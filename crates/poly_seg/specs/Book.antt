@@ -1,5 +1,5 @@
 -- 01, "Refusal numbers", Booking, and 02, R-7: 1, 2, 9, 17, then 10; cutting as the free-volume manager's, without volumes.
-use Rattle.std.specs.Prelude.{ℕ, []}
+use Rattle.std.specs.Prelude.{ℕ, [], Option, Some, None}
 use Rattle.units.specs.declared.Date.{Date}
 use Rattle.units.specs.declared.Interval.{Interval}
 use Rattle.units.specs.declared.TxData.{TxData}
@@ -7,8 +7,7 @@ use Rattle.units.specs.declared.Bundle.{Bundle}
 use Rattle.units.specs.Limits.{bundle_ok}
 use Rattle.units.specs.Answer.{offers, booking_of}
 use Rattle.units.specs.Strict.{forbids}
-use Rattle.free_list.specs.declared.Found.{Found}
-use Rattle.free_list.specs.declared.Found.TheVariants.{At, None}
+use Rattle.free_list.specs.declared.Fit.{Fit}
 use Rattle.free_list.specs.declared.FreeList.{FreeList}
 use Rattle.free_list.specs.declared.Cut.{Cut}
 use Rattle.free_list.specs.Cut.{list_cut}
@@ -36,8 +35,8 @@ booked_of r i send =
     record { number = done.number; manager = with_free r done.list }
 
 -- the cut at what the dry run found
-abbrev pub booked_at : PolySeg → Found → Booked
-booked_at r (At i send) = booked_of r i send
+abbrev pub booked_at : PolySeg → Option Fit → Booked
+booked_at r (Some x) = booked_of r x.place x.send
 booked_at r None = refused_booking 9 r
 
 -- the booking

@@ -1,5 +1,5 @@
 -- 01, "Records": all that the opening tests holds; a free list without volumes; unused places are zero.
-use Rattle.std.specs.Prelude.{ℕ, Bool, List, [], leb, eqb, take, drop}
+use Rattle.std.specs.Prelude.{ℕ, Bool, List, [], leb, eqb, take, drop, Option}
 use Rattle.units.specs.declared.Interval.{Interval}
 use Rattle.units.specs.declared.Offer.{Offer}
 use Rattle.units.specs.Limits.{listed_max}
@@ -26,7 +26,7 @@ abbrev pub strict_of : PolySeg → ℕ
 strict_of r = r.choices.strict.0
 
 -- the delays at a send start and a send end by it, and the answer with a send interval
-abbrev pub delays_at : PolySeg → ℕ → ℕ → Delays
+abbrev pub delays_at : PolySeg → ℕ → ℕ → Option Delays
 delays_at r = delays_of (rule_of r) (delay_list r)
 
 abbrev pub answer_in : PolySeg → Interval → Offer

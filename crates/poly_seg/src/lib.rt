@@ -1,31 +1,34 @@
 // The polynomial manager (poly_seg.rs: PolySegManager): open, dry run, book, list.
 #![tactic(auto)]
 
-ghost use Rattle.std.specs.Prelude.{◌≡◌, true, [], ◌≤◌, take, drop};
-ghost use Rattle.units.specs.Limits.{date_max, volume_max, listed_max, window_ok};
-ghost use Rattle.units.specs.Logic.{both, all_of};
-ghost use Rattle.contact.specs.Segments.{no_volume};
+ghost use Rattle.std.specs.Prelude.{◌≡◌, true, false, [], ◌≤◌, MatchOption, IfOk, take};
+ghost use Rattle.units.specs.Limits.{date_max, volume_max, window_ok};
+ghost use Rattle.units.specs.Refusal.{number_of, told};
 ghost use Rattle.free_list.specs.Listed.{segment_ok, list_ok};
 ghost use Rattle.free_list.specs.Granted.{Inside};
 ghost use Rattle.poly.specs.Poly.{step_max};
-ghost use Rattle.poly.specs.Granted.{capacity_by, Ranged};
+ghost use Rattle.poly.specs.Granted.{capacity_by};
 ghost use Rattle.poly_seg.specs.Choices.{ported, choices_ok};
-ghost use Rattle.poly_seg.specs.Open.{open_of, refused_opening, delay_ok, delays_ok, delays_by};
+ghost use Rattle.poly_seg.specs.Open.{open_of, delay_ok, delays_ok, delays_by};
 ghost use Rattle.poly_seg.specs.Record.{record_ok, answer_in};
-ghost use Rattle.poly_seg.specs.DryRun.{end_in, found_of, dry_run_of};
+ghost use Rattle.poly_seg.specs.DryRun.{end_in, offer_of, found_of, dry_run_of};
 ghost use Rattle.poly_seg.specs.Book.{book_of, cut_free, refused_booking};
 ghost use Rattle.poly_seg.specs.List.{list_of};
-ghost use Rattle.poly_seg.specs.Granted.{number_by, chosen_of};
+ghost use Rattle.poly_seg.specs.Granted.{number_by, figures_ok, free_ok, chosen_of};
 
-use free_list::{Chosen, Cut, Found, FreeList};
-use poly::terms::Terms;
+use contact::span::Span;
+use free_list::{Chosen, Cut, Fit, FreeList};
+use poly::terms::WindowTerms;
 use poly::{Mode, Polynome};
-use segmentation::{DelaySegment, Edition, End, RateSegment, Rule, VolumeSegment};
+use segmentation::{DelaySegment, Edition, Rule, VolumeSegment};
+use units::blank::unused;
+use units::refusal::Refusal;
 use units::{Bundle, Date, Delay, Interval, Offer, Strict, TxData, Volume};
 
 // What an opening chooses and the record names: the mode in which capacity is counted, the rule of the delays and the strict flag.
+// A type of its own beside contact's: both are C's records, and each has its `choices_ok` and `ported`.
 #[repr(C)]
-#[derive(Clone, Copy)]
+#[derive(Clone, Copy, PartialEq, Eq, Default)]
 pub struct Choices {
     pub mode: Mode,
     pub rule: Rule,
@@ -45,22 +48,17 @@ impl Choices {
     }
 
     // Is each choice one that there is?
+    #[tactic(auto, unfolding(crate::specs::Choices::choices_ok, units::specs::Logic::both))]
     pub fn ok(self) -> bool
         ensures { result ≡ choices_ok self }
     {
-        if !units::one_or_two(self.mode.0) {
-            return false;
-        }
-        if !units::one_or_two(self.rule.0) {
-            return false;
-        }
-        let strict = self.strict;
-        strict.ok()
+        units::one_or_two(self.mode.0) && units::one_or_two(self.rule.0) && self.strict.ok()
     }
 }
 
+// An array with a count: the C interface's layout.
 #[repr(C)]
-#[derive(Clone, Copy)]
+#[derive(Clone, Copy, Default)]
 pub struct PolySeg {
     pub choices: Choices,
     pub window: Interval,
@@ -71,8 +69,9 @@ pub struct PolySeg {
 }
 
 // The answer of an opening: 01's number and the record, which is zero on a refusal.
+// A number beside a value here and in the next two: C's answers, of which this manager's own `open_of`, `book_of` and `list_of` speak.
 #[repr(C)]
-#[derive(Clone, Copy)]
+#[derive(Clone, Copy, Default)]
 pub struct Opened {
     pub number: u8,
     pub manager: PolySeg,
@@ -95,190 +94,142 @@ pub struct Listing {
 }
 
 // Are the delay's dates and the delay inside their limits?
+#[tactic(auto, unfolding(crate::specs::Open::delay_ok, units::specs::Logic::both))]
 pub fn delay_ok(s: DelaySegment) -> bool
     ensures { result ≡ delay_ok s }
 {
-    if Date::MAX < s.start.0 {
-        return false;
-    }
-    if Date::MAX < s.end.0 {
-        return false;
-    }
-    s.delay.0 <= Delay::MAX
+    s.start.0 <= Date::MAX && s.end.0 <= Date::MAX && s.delay.0 <= Delay::MAX
 }
 
-// The delay list: at most 16 segments, each number inside its limits, nothing else.
-pub fn delays_ok(delays: [DelaySegment; DelaySegment::COUNT_MAX], count: usize) -> bool
-    ensures { result ≡ delays_ok count delays }
+// An array with a count: the count is what an opening is given, untested, and the slice that is answered is the list.
+// The delay segments that a list of so many uses, if they are at most 16 with each number inside its limits, and nothing else.
+pub fn delays_ok(
+    delays: &[DelaySegment; DelaySegment::COUNT_MAX],
+    count: usize,
+) -> Option<&[DelaySegment]>
+    ensures { MatchOption result (delays_ok count delays.now ≡ false) (λ l. (delays_ok count delays.now ≡ true) × (l.now ≡ take count delays.now)) }
 {
-    if DelaySegment::COUNT_MAX < count {
-        return false;
-    }
-    let mut i: usize = 0;
-    loop {
-        if count <= i {
-            break true;
-        }
-        let s = delays[i];
-        if !delay_ok(s) {
-            break false;
-        }
-        i += 1;
-    }
+    let list = delays.get(..count)?;
+    list.iter().all(|s| delay_ok(*s)).then_some(list)
 }
 
-// The delay list by the rule: by rule 2 it covers the window as the other managers' do.
+// The same by the rule: by rule 2 they cover the window as the other managers' do.
 pub fn delays_by(
     rule: Rule,
     window: Interval,
-    delays: [DelaySegment; DelaySegment::COUNT_MAX],
+    delays: &[DelaySegment; DelaySegment::COUNT_MAX],
     count: usize,
-) -> bool
-    ensures { result ≡ delays_by rule.0 window count delays }
+) -> Option<&[DelaySegment]>
+    ensures { MatchOption result (delays_by rule.0 window count delays.now ≡ false) (λ l. (delays_by rule.0 window count delays.now ≡ true) × (l.now ≡ take count delays.now)) }
 {
     if rule.0 == Rule::SECOND {
-        return contact::test::delays_are(delays, count, window);
+        contact::test::delays_are(delays, count, window)
+    } else {
+        delays_ok(delays, count)
     }
-    delays_ok(delays, count)
 }
 
 // A listed segment in its turn: in the window from a date on, forward, with no volume.
+#[tactic(auto, using(crate::proofs::NoRates::bare_test), unfolding(free_list::specs::Listed::segment_ok, units::specs::Logic::both))]
 pub fn bare_segment(g: VolumeSegment, low: Date, hi: Date) -> bool
     ensures { result ≡ segment_ok [] low.0 hi.0 g }
 {
-    if g.start.0 < low.0 {
-        return false;
-    }
-    if g.end.0 < g.start.0 {
-        return false;
-    }
-    if hi.0 < g.end.0 {
-        return false;
-    }
-    g.volume.0 == 0
+    low.0 <= g.start.0 && g.start.0 <= g.end.0 && g.end.0 <= hi.0 && g.volume.0 == 0
 }
 
 // Does the free list keep its rules: in the window, in order, no volumes?
-pub fn bare_ok(segments: [VolumeSegment; FreeList::COUNT_MAX], n: usize, window: Interval) -> bool
-    requires fact_1 { n ≤ listed_max }
-    requires fact_2 { window_ok window ≡ true }
-    ensures { result ≡ list_ok [] window.start.0 window.end.0 (take n segments) }
+pub fn bare_ok(segments: &[VolumeSegment], window: Interval) -> bool
+    requires { window_ok window ≡ true }
+    ensures { result ≡ list_ok [] window.start.0 window.end.0 segments.now }
 {
-    let hi = window.end;
-    let mut i: usize = 0;
     let mut low = window.start;
-    loop {
-        if n <= i {
-            break true;
-        }
-        let g = segments[i];
-        if !bare_segment(g, low, hi) {
-            break false;
+    for g in segments {
+        if !bare_segment(*g, low, window.end) {
+            return false;
         }
         low = Date(g.end.0 + 1);
-        i += 1;
     }
+    true
 }
 
-// And is nothing in the places from the count on?
-fn listed_ok(segments: [VolumeSegment; FreeList::COUNT_MAX], n: usize, window: Interval) -> bool
-    requires fact_1 { n ≤ listed_max }
-    requires fact_2 { window_ok window ≡ true }
-    ensures { result ≡ both (list_ok [] window.start.0 window.end.0 (take n segments)) (all_of no_volume (drop n segments)) }
+// And has it 1 to 64 segments, and nothing in the places from the count on?
+fn free_ok(free: &FreeList, window: Interval) -> bool
+    requires { window_ok window ≡ true }
+    ensures { result ≡ free_ok window free.now }
 {
-    if !bare_ok(segments, n, window) {
-        return false;
-    }
-    free_list::unused(segments, n)
+    (1..=FreeList::COUNT_MAX).contains(&free.count)
+        && bare_ok(free.listed(), window)
+        && unused(&free.segments[free.count..])
 }
 
-// The end that a listed segment has for a size as the terms count it: none if it ends before the asked time.
-pub fn end_in(window: Interval, terms: Terms, g: VolumeSegment, asked: Date, size: u64) -> End
-    requires fact_1 { Ranged terms window }
-    requires fact_2 { (window.start.0 ≤ g.start.0) × (g.end.0 ≤ window.end.0) }
-    requires fact_3 { size ≤ step_max }
-    ensures { result ≡ end_in (capacity_by terms) g asked.0 size }
+// The end that a listed segment has for a size as the terms count it: none if it ends before the asked time. `small` stands at each: a type for one number that `search` makes once is no plainer.
+pub fn end_in(terms: WindowTerms, g: VolumeSegment, asked: Date, size: u64) -> Option<Date>
+    requires inside { (terms.window.start.0 ≤ g.start.0) × (g.end.0 ≤ terms.window.end.0) }
+    requires small { size ≤ step_max }
+    ensures { result ≡ end_in (capacity_by terms.terms) g asked.0 size }
 {
-    let start = g.start;
-    let end = g.end;
-    if end.0 < asked.0 {
-        return End::None;
+    if g.end < asked {
+        return None;
     }
-    let from = units::later(start, asked);
-    terms.find_end(
-        window,
-        Interval {
-            start: start,
-            end: end,
-        },
-        from,
-        size,
-    )
+    terms.find_end(g.dates(), units::later(g.start, asked), size)
 }
 
-impl PolySeg {
-    fn refused_opening(number: u8) -> Opened
-        ensures { result ≡ refused_opening number }
-    {
-        let delay = DelaySegment {
-            start: Date(0),
-            end: Date(0),
-            delay: Delay(0),
+// The first listed segment that has an end for the size: one that has none is passed over.
+// Not free_list's `find_offer`: one function over the two ends would take a closure whose clause carries `inside` and `small`, or `covered`, of each segment, and is no plainer; each manager has its own `offer_of`.
+pub fn find_offer(terms: WindowTerms, free: &[VolumeSegment], asked: Date, size: u64) -> Option<Fit>
+    requires ruled { list_ok [] terms.window.start.0 terms.window.end.0 free.now ≡ true }
+    requires small { size ≤ step_max }
+    ensures { result ≡ offer_of (capacity_by terms.terms) free.now asked.0 size }
+{
+    for (place, g) in free.iter().enumerate() {
+        let Some(end) = end_in(terms, *g, asked, size) else {
+            continue;
         };
-        let delays = [delay; DelaySegment::COUNT_MAX];
-        let free = FreeList::nothing();
-        Opened {
-            number: number,
-            manager: PolySeg {
-                choices: Choices {
-                    mode: Mode(0),
-                    rule: Rule(0),
-                    strict: Strict(0),
-                },
-                window: Interval {
-                    start: Date(0),
-                    end: Date(0),
-                },
-                polynome: Polynome {
-                    coefficients: [0i64; Polynome::COEFFICIENTS],
-                    offset: Date(0),
-                },
-                delays: delays,
-                delay_count: 0,
-                free: free,
-            },
-        }
+        let start = units::later(g.start, asked);
+        return Some(Fit {
+            place,
+            send: Interval { start, end },
+        });
     }
+    None
+}
 
-    fn refused_booking(self, number: u8) -> Booked
-        ensures { result ≡ refused_booking number self }
+// `record_ok` stays a clause of the kept calls and of what is inside: they take a record as C holds it, docs/CALLS.md names them with that clause (`dry_run_kept`, `book_kept`), and a type with it as its invariant would ask more of their callers.
+impl PolySeg {
+    fn refused_booking(self, refusal: Refusal) -> Booked
+        ensures { result ≡ refused_booking (number_of refusal) self }
     {
         Booked {
-            number: number,
+            number: refusal.number(),
             manager: self,
         }
     }
 
-    // The number of an opening with these figures, which a record's own are held to: 2 for a choice that there is not, 3, 5 where the delays do not hold, 11, in this order.
-    fn opening(choices: Choices, window: Interval, polynome: Polynome, held: bool) -> u8
-        ensures { result ≡ number_by choices window polynome held }
+    // An opening with these figures, which a record's own are held to: the delay segments used, or 2 for a choice that there is not, 3, 5 where the delays do not hold, 11, in this order.
+    fn opening(
+        choices: Choices,
+        window: Interval,
+        polynome: Polynome,
+        delays: &[DelaySegment; DelaySegment::COUNT_MAX],
+        delay_count: usize,
+    ) -> Result<&[DelaySegment], Refusal>
+        ensures number { told result ≡ number_by choices window polynome (delays_by choices.rule.0 window delay_count delays.now) }
+        ensures used { IfOk result (λ l. l.now ≡ take delay_count delays.now) }
     {
         if !choices.ok() {
-            return units::refusal::CHOICE;
+            return Err(Refusal::Bundle);
         }
         if !window.is_window() {
-            return units::refusal::WINDOW;
+            return Err(Refusal::Window);
         }
-        if !held {
-            return units::refusal::DELAYS;
-        }
+        let used = delays_by(choices.rule, window, delays, delay_count).ok_or(Refusal::Delays)?;
         if !polynome.ok(choices.mode, window) {
-            return units::refusal::POLYNOMIAL;
+            return Err(Refusal::Polynomial);
         }
-        0
+        Ok(used)
     }
 
-    // new and try_init: refused with that number; the whole window is listed, bare.
+    // new and try_init: refused with that number; the whole window is listed, bare. The delays by value with their count: the signature that the docs name (`open_of`, `open-unique`).
     pub fn open(
         choices: Choices,
         window: Interval,
@@ -288,23 +239,34 @@ impl PolySeg {
     ) -> Opened
         ensures { result ≡ open_of choices window polynome delays delay_count }
     {
-        let held = delays_by(choices.rule, window, delays, delay_count);
-        let number = PolySeg::opening(choices, window, polynome, held);
-        if number != 0 {
-            return PolySeg::refused_opening(number);
-        }
-        let kept = contact::opening::delays_of(delays, delay_count);
-        let free = FreeList::whole(window, Volume(0));
-        Opened {
-            number: 0,
-            manager: PolySeg {
-                choices: choices,
-                window: window,
-                polynome: polynome,
-                delays: kept,
-                delay_count: delay_count,
-                free: free,
+        match PolySeg::opening(choices, window, polynome, &delays, delay_count) {
+            Ok(used) => Opened {
+                number: 0,
+                manager: PolySeg {
+                    choices,
+                    window,
+                    polynome,
+                    delays: contact::opening::delays_of(used),
+                    delay_count,
+                    free: FreeList::whole(window, Volume(0)),
+                },
             },
+            Err(refusal) => Opened {
+                number: refusal.number(),
+                ..Opened::default()
+            },
+        }
+    }
+
+    // Does an opening take the record's figures, and is nothing in the delays' places from their count on?
+    fn figures_ok(&self) -> bool
+        ensures { result ≡ figures_ok self.now }
+    {
+        let delays = &self.delays;
+        let count = self.delay_count;
+        match PolySeg::opening(self.choices, self.window, self.polynome, delays, count) {
+            Ok(_) => unused(&delays[count..]),
+            Err(_) => false,
         }
     }
 
@@ -312,95 +274,45 @@ impl PolySeg {
     pub fn ok(self) -> bool
         ensures { result ≡ record_ok self }
     {
-        let choices = self.choices;
-        let window = self.window;
-        let polynome = self.polynome;
-        let delays = self.delays;
-        let k = self.delay_count;
-        let free = self.free;
-        let segments = free.segments;
-        let n = free.count;
-        let held = delays_by(choices.rule, window, delays, k);
-        if PolySeg::opening(choices, window, polynome, held) != 0 {
-            return false;
-        }
-        if !contact::test::delays_unused(delays, k) {
-            return false;
-        }
-        if n < 1 {
-            return false;
-        }
-        if FreeList::COUNT_MAX < n {
-            return false;
-        }
-        listed_ok(segments, n, window)
+        self.figures_ok() && free_ok(&self.free, self.window)
     }
 
-    // The search of a dry run, on a record that keeps its rules: a free segment that has no end is passed over.
-    fn search(self, asked: Date, size: Volume) -> Found
-        requires fact_1 { record_ok self ≡ true }
-        requires fact_2 { size.0 ≤ volume_max }
-        ensures { result ≡ found_of self asked.0 size.0 }
+    // The search of a dry run, on a record that keeps its rules.
+    fn search(&self, asked: Date, size: Volume) -> Option<Fit>
+        requires kept { record_ok self.now ≡ true }
+        requires small { size.0 ≤ volume_max }
+        ensures { result ≡ found_of self.now asked.0 size.0 }
     {
-        let window = self.window;
-        let polynome = self.polynome;
         let mode = self.choices.mode;
-        let free = self.free;
-        let segments = free.segments;
-        let n = free.count;
-        let terms = polynome.terms(mode, window);
-        let wanted = mode.wanted(size);
-        let mut i: usize = 0;
-        loop {
-            if n <= i {
-                break Found::None;
-            }
-            let g = segments[i];
-            let End::At(e) = end_in(window, terms, g, asked, wanted) else {
-                i += 1;
-                continue;
-            };
-            let from = units::later(g.start, asked);
-            break Found::At {
-                place: i,
-                send: Interval {
-                    start: from,
-                    end: e,
-                },
-            };
-        }
+        let terms = self.polynome.terms(mode, self.window);
+        find_offer(terms, self.free.listed(), asked, mode.wanted(size))
     }
 
     // The offer of a send interval, with its delays.
-    fn answer(self, send: Interval) -> Offer
-        requires fact_1 { record_ok self ≡ true }
-        requires fact_2 { (send.start.0 ≤ date_max) × (send.end.0 ≤ date_max) }
-        ensures { result ≡ answer_in self send }
+    fn answer(&self, send: Interval) -> Offer
+        requires kept { record_ok self.now ≡ true }
+        requires dated { (send.start.0 ≤ date_max) × (send.end.0 ≤ date_max) }
+        ensures { result ≡ answer_in self.now send }
     {
-        let choices = self.choices;
-        let rule = choices.rule;
-        let delays = self.delays;
-        let k = self.delay_count;
-        let found = segmentation::find_delays(rule, delays, k, send);
+        let delays = &self.delays[..self.delay_count];
+        let found = segmentation::find_delays(self.choices.rule, delays, send);
         segmentation::answer(send, found)
     }
 
-    // What a dry run finds on a record that keeps its rules: its answer, and where it comes from.
+    // What a dry run finds on a record that keeps its rules: its answer, and where it comes from. Its refusals stay numbers: the public answer `Chosen` has its number in the offer (`chosen_of`).
     pub fn chosen(self, at: Date, bundle: Bundle) -> Chosen
         requires { record_ok self ≡ true }
         ensures { result ≡ chosen_of self at bundle }
     {
         if !bundle.ok_at(at) {
-            return Chosen::refused(units::refusal::BUNDLE);
+            return Chosen::refused(Refusal::Bundle.number());
         }
-        let size = bundle.size;
-        let Found::At { place, send } = self.search(at, size) else {
-            return Chosen::refused(units::refusal::NO_OFFER);
+        let Some(Fit { place, send }) = self.search(at, bundle.size) else {
+            return Chosen::refused(Refusal::NoOffer.number());
         };
-        let offer = self.answer(send);
         Chosen {
-            offer: offer,
-            place: place,
+            offer: self.answer(send),
+            place,
         }
     }
 
@@ -409,8 +321,7 @@ impl PolySeg {
         requires { record_ok self ≡ true }
         ensures { result ≡ dry_run_of self at bundle }
     {
-        let c = self.chosen(at, bundle);
-        c.offer
+        self.chosen(at, bundle).offer
     }
 
     // dry_run_tx: 1, 2, then 7 or 8.
@@ -418,7 +329,7 @@ impl PolySeg {
         ensures { result ≡ dry_run_of self at bundle }
     {
         if !self.ok() {
-            return Offer::refused(units::refusal::RECORD);
+            return Offer::refused(Refusal::Record.number());
         }
         self.dry_run_kept(at, bundle)
     }
@@ -428,21 +339,17 @@ impl PolySeg {
         requires { record_ok self ≡ true }
         ensures { result ≡ book_of self at bundle dates }
     {
-        let c = self.chosen(at, bundle);
-        let offer = c.offer;
-        let place = c.place;
-        let number = offer.refusal(self.choices.strict, dates);
-        if number != 0 {
-            return self.refused_booking(number);
+        let Chosen { offer, place } = self.chosen(at, bundle);
+        if let Err(refusal) = offer.check(self.choices.strict, dates) {
+            return self.refused_booking(refusal);
         }
-        let send = dates.send;
-        let done = self.cut(place, send);
-        let left = done.list;
-        let mut next = self;
-        next.free = left;
+        let done = self.cut(place, dates.send);
         Booked {
             number: done.number,
-            manager: next,
+            manager: PolySeg {
+                free: done.list,
+                ..self
+            },
         }
     }
 
@@ -451,7 +358,7 @@ impl PolySeg {
         ensures { result ≡ book_of self at bundle dates }
     {
         if !self.ok() {
-            return self.refused_booking(units::refusal::RECORD);
+            return self.refused_booking(Refusal::Record);
         }
         self.book_kept(at, bundle, dates)
     }
@@ -461,14 +368,8 @@ impl PolySeg {
         requires { Inside self.free place 0 }
         ensures { result ≡ cut_free self place send }
     {
-        let zero = VolumeSegment {
-            start: Date(0),
-            end: Date(0),
-            volume: Volume(0),
-        };
-        let rates = [zero; RateSegment::COUNT_MAX];
-        let free = self.free;
-        free.cut(Edition(Edition::FIRST), rates, 0, place, send, Volume(0))
+        self.free
+            .cut(Edition(Edition::FIRST), &[], place, send, Volume(0))
     }
 
     // The listed segments: 1.
@@ -476,16 +377,14 @@ impl PolySeg {
         ensures { result ≡ list_of self }
     {
         if !self.ok() {
-            let none = FreeList::nothing();
             return Listing {
-                number: units::refusal::RECORD,
-                list: none,
+                number: Refusal::Record.number(),
+                list: FreeList::default(),
             };
         }
-        let free = self.free;
         Listing {
             number: 0,
-            list: free,
+            list: self.free,
         }
     }
 }

@@ -10,8 +10,8 @@ use Rattle.units.proofs.Loads.{asked-load, load}
 use Rattle.units.proofs.Booking.{offer-keeps}
 use Rattle.contact.specs.Boundary.{Received}
 use Rattle.contact.specs.Record.{delay_list}
-use Rattle.bookings.specs.declared.Run.{Run}
-use Rattle.bookings.specs.declared.Run.TheVariants.{Idle, Going, Sent}
+use Rattle.bookings.specs.Search.{Run}
+use Rattle.std.specs.declared.ops.ControlFlow.TheVariants.{Continue, Break}
 use Rattle.pseg.specs.declared.PrioritySeg.{PrioritySeg}
 use Rattle.pseg.specs.Record.{record_ok}
 use Rattle.pseg.specs.DryRun.{run_of, answer_to, dry_run_of}
@@ -22,9 +22,8 @@ module _ (r : PrioritySeg) (at : Date) (b : Bundle) (two : r.contact.choices.rul
   By o = Received r.contact.window.end.0 (delay_list r.contact) o
 
   answer-received : record_ok r ≡ true → bundle_ok at b ≡ true → (f : Run) → run_of r at.0 b ≡ f → (answer_to r f).number ≡ 0 → By (answer_to r f)
-  answer-received ok fits (Sent send) e z = found-received r (facts r ok) at.0 b send e (load b (asked-load at b fits)).some two
-  answer-received ok fits (Going send) e z = absurd (omega (arith, z))
-  answer-received ok fits Idle e z = absurd (omega (arith, z))
+  answer-received ok fits (Break send) e z = found-received r (facts r ok) at.0 b send e (load b (asked-load at b fits)).some two
+  answer-received ok fits (Continue now) e z = absurd (omega (arith, z))
 
   pub offer-received : (dry_run_of r at b).number ≡ 0 → By (dry_run_of r at b)
   unfolding dry_run_of

@@ -12,7 +12,7 @@ use Rattle.units.specs.declared.Bundle.{Bundle}
 use Rattle.units.specs.Logic.{both, all_of}
 use Rattle.units.proofs.Logic.{both-fst, both-snd, both_yes}
 use Rattle.units.proofs.Counted.{counted-some, counted-most, counted-holds}
-use Rattle.units.proofs.Arrays.{take-padded, unused-padded}
+use Rattle.units.proofs.Arrays.{unused-padded}
 use Rattle.segmentation.specs.Capacity.{top_of}
 use Rattle.segmentation.proofs.EndLaws.{Ends, end-ends}
 use Rattle.contact.specs.declared.Contact.{Contact}
@@ -21,14 +21,14 @@ use Rattle.contact.specs.Boundary.{Received}
 use Rattle.contact.proofs.Lookup.{Answers, contact-answers, contact-received}
 use Rattle.contact.proofs.Sound.{Sound, sound}
 use Rattle.bookings.specs.declared.BookingSegment.{BookingSegment}
-use Rattle.bookings.specs.declared.Run.TheVariants.{Sent}
+use Rattle.std.specs.declared.ops.ControlFlow.TheVariants.{Break}
 use Rattle.bookings.specs.Listed.{cover_ok, level_at, no_booking, listed}
 use Rattle.bookings.specs.Search.{rule_of}
-use Rattle.bookings.specs.Cut.{segment}
+use Rattle.bookings.specs.Cut.{segment, list_in}
+use Rattle.bookings.proofs.CutLoop.{listed_in}
 use Rattle.bookings.proofs.RunLaws.{Free, run-found}
 use Rattle.pseg.specs.declared.PrioritySeg.{PrioritySeg}
 use Rattle.pseg.specs.Record.{bookings_ok, record_ok}
-use Rattle.pseg.specs.Open.{list_in}
 use Rattle.pseg.specs.DryRun.{run_of}
 
 -- the listed segments cover the contact's window
@@ -62,9 +62,6 @@ zero-unused : no_booking (segment 0 0 0) ≡ true
 unfolding no_booking both
 zero-unused = refl
 
-pub listed_in : (f : List BookingSegment) → listed (list_in f) ≡ f
-listed_in f = take-padded listed_max (segment 0 0 0) f (length f) refl
-
 -- a contact that keeps its rules, with 1 to 64 bookings that cover its window, is a record that does
 pub record-kept : (c : Contact) (f : List BookingSegment) → contact_ok c ≡ true → 1 ≤ length f → length f ≤ listed_max → Covered c f
     → record_ok (record { contact = c; bookings = list_in f }) ≡ true
@@ -82,7 +79,7 @@ unfolding cover_ok
 cover-some a b [] h e = absurd (omega (arith, eqb-true a b e))
 cover-some a b (g ∷ f) h e = omega arith
 
-module _ (r : PrioritySeg) (q : Facts r) (t : ℕ) (b : Bundle) (send : Interval) (h : run_of r t b ≡ Sent send) where
+module _ (r : PrioritySeg) (q : Facts r) (t : ℕ) (b : Bundle) (send : Interval) (h : run_of r t b ≡ Break send) where
   -- no tick of the run has a level above the priority
   pub found-free : Free (rule_of (edition_of r.contact) (rates_of r.contact) b.size.0 r.contact.window.end.0) (level_at (listed r.bookings))
       r.contact.window.start.0 t b.priority.0 send.end.0 send

@@ -12,8 +12,8 @@ use Rattle.units.proofs.Loads.{asked-load, load}
 use Rattle.segmentation.proofs.EndLaws.{end-monotone-start}
 use Rattle.contact.specs.Record.{rates_of, edition_of}
 use Rattle.contact.proofs.Lookup.{Answers}
-use Rattle.bookings.specs.declared.Run.{Run}
-use Rattle.bookings.specs.declared.Run.TheVariants.{Idle, Going, Sent}
+use Rattle.bookings.specs.Search.{Run}
+use Rattle.std.specs.declared.ops.ControlFlow.TheVariants.{Continue, Break}
 use Rattle.bookings.specs.Listed.{listed}
 use Rattle.bookings.specs.Fits.{FindsFirst}
 use Rattle.bookings.proofs.FirstFit.{search-first}
@@ -37,18 +37,18 @@ module _ (r : PrioritySeg) (at : Date) (b : Bundle) where
       (facts r ok).cover
 
   -- a run found is answered with 0 and its own dates
-  sent-first : (send : Interval) (o : Offer) → Answers send o → First (Sent send) → FirstOffer r at b o
+  sent-first : (send : Interval) (o : Offer) → Answers send o → First (Break send) → FirstOffer r at b o
   sent-first send o a q =
       record {
         offer = λ s. (
-          λ x. (q.found s).0 (ap Sent (sym a.sends ∙ x.1)),
-          λ w. let is : Sent send ≡ Sent s = (q.found s).1 w in let same : send ≡ s = cc in (a.number, a.sends ∙ same),
+          λ x. (q.found s).0 (ap Break (sym a.sends ∙ x.1)),
+          λ w. let is : Break send ≡ Break s = (q.found s).1 w in let same : send ≡ s = cc in (a.number, a.sends ∙ same),
         );
         none = (λ x. absurd (omega (arith, a.number)), λ n. absurd (q.none.1 n send refl));
       }
 
   -- and where none is found the answer is 7
-  none_first : (o : Offer) (x : Run) → o.number ≡ 7 → ((send : Interval) → x ≡ Sent send → ⊥) → First x → FirstOffer r at b o
+  none_first : (o : Offer) (x : Run) → o.number ≡ 7 → ((send : Interval) → x ≡ Break send → ⊥) → First x → FirstOffer r at b o
   none_first o x seven nothing q =
       record {
         offer = λ s. (λ y. absurd (omega (arith, y.0)), λ w. absurd (nothing s ((q.found s).1 w)));
@@ -57,9 +57,8 @@ module _ (r : PrioritySeg) (at : Date) (b : Bundle) where
 
   module _ (ok : record_ok r ≡ true) (fits : bundle_ok at b ≡ true) where
     first_by : (x : Run) → run_of r at.0 b ≡ x → First x → FirstOffer r at b (answer_to r x)
-    first_by (Sent send) e q = sent-first send (answer_to r (Sent send)) (found-answers r (facts r ok) at.0 b send e (load b (asked-load at b fits)).some) q
-    first_by (Going send) e q = none_first (answer_to r (Going send)) (Going send) refl (λ s z. let y : ◌≡◌ {A = ℕ} 0 1 = cc in omega arith) q
-    first_by Idle e q = none_first (answer_to r Idle) Idle refl (λ s z. let y : ◌≡◌ {A = ℕ} 0 1 = cc in omega arith) q
+    first_by (Break send) e q = sent-first send (answer_to r (Break send)) (found-answers r (facts r ok) at.0 b send e (load b (asked-load at b fits)).some) q
+    first_by (Continue now) e q = none_first (answer_to r (Continue now)) (Continue now) refl (λ s z. let y : ◌≡◌ {A = ℕ} 0 1 = cc in omega arith) q
 
     -- the dry run
     pub dry-first : FirstOffer r at b (dry_run_of r at b)

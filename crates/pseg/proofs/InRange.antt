@@ -16,7 +16,8 @@ use Rattle.pseg.specs.declared.PrioritySeg.{PrioritySeg}
 use Rattle.pseg.specs.declared.Listing.{Listing}
 use Rattle.pseg.specs.Record.{record_ok}
 use Rattle.pseg.specs.List.{list_of}
-use Rattle.pseg.proofs.Facts.{facts, listed_in}
+use Rattle.bookings.proofs.CutLoop.{listed_in}
+use Rattle.pseg.proofs.Facts.{facts}
 use Rattle.pseg.proofs.PrioritySeg.list.Reads as list-reads
 
 -- the segment's level is from 0 to 128

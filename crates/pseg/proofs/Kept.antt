@@ -29,22 +29,23 @@ use Rattle.contact.proofs.Sound.{sound}
 use Rattle.contact.proofs.Fresh.{opened-ok}
 use Rattle.contact.proofs.Refusals.{opened-is}
 use Rattle.bookings.specs.declared.BookingSegment.{BookingSegment}
-use Rattle.bookings.specs.declared.Run.TheVariants.{Sent}
+use Rattle.std.specs.declared.ops.ControlFlow.TheVariants.{Break}
 use Rattle.bookings.specs.declared.Set.{Set}
 use Rattle.bookings.specs.Listed.{level_max, level_at, listed}
-use Rattle.bookings.specs.Cut.{set_of, laid_of}
+use Rattle.bookings.specs.Cut.{set_of, list_in}
+use Rattle.units.specs.declared.refusal.Refusal.TheVariants.{Full}
 use Rattle.bookings.proofs.CoverLaws.{Cover, cover-true}
-use Rattle.bookings.proofs.CutLoop.{set_full, set-fits}
+use Rattle.bookings.proofs.CutLoop.{listed_in, set_full, set-fits}
 use Rattle.bookings.proofs.SetLaws.{set-cover, set-some}
 use Rattle.bookings.proofs.Instants.{set-sent, set_other}
 use Rattle.pseg.specs.declared.PrioritySeg.{PrioritySeg}
 use Rattle.pseg.specs.declared.Opened.{Opened}
 use Rattle.pseg.specs.declared.Booked.{Booked}
 use Rattle.pseg.specs.Record.{record_ok}
-use Rattle.pseg.specs.Open.{list_in, whole_window, refused_opening, opened_of, open_of}
+use Rattle.pseg.specs.Open.{whole_window, refused_opening, opened_of, open_of}
 use Rattle.pseg.specs.DryRun.{dry_run_of, run_of}
 use Rattle.pseg.specs.Book.{book_of, refused_booking}
-use Rattle.pseg.proofs.Facts.{facts, listed_in, record-kept, cover-some, found-ends}
+use Rattle.pseg.proofs.Facts.{facts, record-kept, cover-some, found-ends}
 use Rattle.pseg.proofs.ByDryRun.{dry-refused, dry-bundled, dry-found, dry-done}
 
 -- The opening.
@@ -91,7 +92,7 @@ set_listed r b d = set_of d.send.start.0 d.send.end.0 (b.priority.0 + 1) (listed
 pub record Accepted (r : PrioritySeg) (at : Date) (b : Bundle) (d : TxData) (a : Booked) : Type 0 where
   pub some : 0 < b.size.0
   pub level : b.priority.0 + 1 ≤ level_max
-  pub found : run_of r at.0 b ≡ Sent d.send
+  pub found : run_of r at.0 b ≡ Break d.send
   pub allowed : forbids (strict_of r.contact) d.send ≡ false
   pub few : length (set_listed r b d) ≤ listed_max
   pub number : a.number ≡ 0
@@ -115,7 +116,7 @@ module _ (r : PrioritySeg) (at : Date) (b : Bundle) (d : TxData) (ok : record_ok
         let is = (dry-done r at b d ok none).0 in
         ⊎_elim
         (λ (few : length list ≤ listed_max).
-        let done = is ∙ sym (ap booked_by (set-fits r.bookings d.send.start.0 d.send.end.0 (b.priority.0 + 1) (length list) refl (laid_of list) few refl)) in
+        let done = is ∙ sym (ap booked_by (set-fits r.bookings d.send.start.0 d.send.end.0 (b.priority.0 + 1) (list_in list) few refl)) in
         inr (record {
           some = l.some;
           level = omega (arith, l.priority);
@@ -126,7 +127,7 @@ module _ (r : PrioritySeg) (at : Date) (b : Bundle) (d : TxData) (ok : record_ok
           manager = ap (λ (x : Booked). x.manager) done;
         }))
         (λ (many : listed_max < length list).
-        let full = sym (ap booked_by (set_full r.bookings d.send.start.0 d.send.end.0 (b.priority.0 + 1) (length list) refl many)) in
+        let full = sym (ap booked_by (set_full r.bookings d.send.start.0 d.send.end.0 (b.priority.0 + 1) Full many refl)) in
         inl (refuse 10 r booked (λ z. omega arith) (is ∙ full)))
         (le-or-lt (length list) listed_max)
 

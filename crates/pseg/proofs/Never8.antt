@@ -23,8 +23,8 @@ use Rattle.contact.specs.declared.Opened.{Opened as ContactOpened}
 use Rattle.contact.specs.Open.{open_contact}
 use Rattle.contact.specs.Record.{strict_of}
 use Rattle.contact.proofs.Refusals.{opening-never-8}
-use Rattle.bookings.specs.declared.Run.{Run}
-use Rattle.bookings.specs.declared.Run.TheVariants.{Idle, Going, Sent}
+use Rattle.bookings.specs.Search.{Run}
+use Rattle.std.specs.declared.ops.ControlFlow.TheVariants.{Continue, Break}
 use Rattle.pseg.specs.declared.PrioritySeg.{PrioritySeg}
 use Rattle.pseg.specs.declared.Opened.{Opened}
 use Rattle.pseg.specs.declared.Booked.{Booked}
@@ -42,9 +42,8 @@ Not8 n = n ≡ 8 → ⊥
 
 module _ (r : PrioritySeg) (at : Date) (b : Bundle) where
   answer-never-8 : record_ok r ≡ true → bundle_ok at b ≡ true → (x : Run) → run_of r at.0 b ≡ x → Not8 (answer_to r x).number
-  answer-never-8 ok fits (Sent send) e h = omega (arith, h, (found-answers r (facts r ok) at.0 b send e (load b (asked-load at b fits)).some).number)
-  answer-never-8 ok fits (Going send) e h = omega arith
-  answer-never-8 ok fits Idle e h = omega arith
+  answer-never-8 ok fits (Break send) e h = omega (arith, h, (found-answers r (facts r ok) at.0 b send e (load b (asked-load at b fits)).some).number)
+  answer-never-8 ok fits (Continue now) e h = omega arith
 
   pub dry-never-8 : Not8 (dry_run_of r at b).number
   unfolding dry_run_of

@@ -29,7 +29,8 @@ use Rattle.pseg.specs.Record.{record_ok}
 use Rattle.pseg.specs.Open.{whole_window}
 use Rattle.pseg.specs.Book.{book_of}
 use Rattle.pseg.specs.Ranked.{level_by, AllBelow, Ranked}
-use Rattle.pseg.proofs.Facts.{facts, listed_in, found-free, found-ends}
+use Rattle.bookings.proofs.CutLoop.{listed_in}
+use Rattle.pseg.proofs.Facts.{facts, found-free, found-ends}
 use Rattle.pseg.proofs.Kept.{opened-manager, Accepted, book-keeps, booked-instants}
 use Rattle.pseg.proofs.Promised.{promised, Reached}
 use Rattle.pseg.proofs.Runs.{run-booked, fresh-none, fresh_ok, fresh-contact}

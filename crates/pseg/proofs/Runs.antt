@@ -19,8 +19,8 @@ use Rattle.segmentation.proofs.Answered.{answer-number as answered-number}
 use Rattle.contact.specs.declared.Choices.{Choices}
 use Rattle.contact.specs.Open.{contact_of}
 use Rattle.contact.specs.Record.{delays_at}
-use Rattle.bookings.specs.declared.Run.{Run}
-use Rattle.bookings.specs.declared.Run.TheVariants.{Idle, Going, Sent}
+use Rattle.bookings.specs.Search.{Run}
+use Rattle.std.specs.declared.ops.ControlFlow.TheVariants.{Continue, Break}
 use Rattle.pseg.specs.declared.PrioritySeg.{PrioritySeg}
 use Rattle.pseg.specs.declared.Opened.{Opened}
 use Rattle.pseg.specs.Record.{record_ok}
@@ -57,9 +57,8 @@ run-contact x y ok runs =
 
 -- an answer's own numbers are 0, 7 and 8
 answer-number : (r : PrioritySeg) (n : ℕ) → (n ≡ 0 → ⊥) × (n ≡ 7 → ⊥) × (n ≡ 8 → ⊥) → (x : Run) → (answer_to r x).number ≡ n → ⊥
-answer-number r n other (Sent send) h = answered-number n (other.0, other.2) _ _ (delays_at r.contact send.start.0 send.end.0) h
-answer-number r n other (Going send) h = other.1 (sym h)
-answer-number r n other Idle h = other.1 (sym h)
+answer-number r n other (Break send) h = answered-number n (other.0, other.2) _ _ (delays_at r.contact send.start.0 send.end.0) h
+answer-number r n other (Continue now) h = other.1 (sym h)
 
 -- no call on a record that keeps its rules answers 1
 module _ (r : PrioritySeg) (ok : record_ok r ≡ true) where

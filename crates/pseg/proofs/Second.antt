@@ -12,14 +12,14 @@ use Rattle.units.proofs.Loads.{asked-load, load}
 use Rattle.units.proofs.Booking.{offer-keeps}
 use Rattle.segmentation.proofs.EndLaws.{end_after}
 use Rattle.contact.specs.Record.{rates_of, edition_of}
-use Rattle.bookings.specs.declared.Run.{Run}
-use Rattle.bookings.specs.declared.Run.TheVariants.{Idle, Going, Sent}
+use Rattle.bookings.specs.Search.{Run}
+use Rattle.std.specs.declared.ops.ControlFlow.TheVariants.{Continue, Break}
 use Rattle.pseg.specs.declared.PrioritySeg.{PrioritySeg}
 use Rattle.pseg.specs.Record.{record_ok}
 use Rattle.pseg.specs.DryRun.{run_of, answer_to, dry_run_of}
 use Rattle.pseg.proofs.Facts.{Facts, facts, found-free, found-answers}
 
-pub found_after : (r : PrioritySeg) (q : Facts r) → edition_of r.contact ≡ 2 → (t : ℕ) (b : Bundle) → 0 < b.size.0 → (send : Interval) → run_of r t b ≡ Sent send
+pub found_after : (r : PrioritySeg) (q : Facts r) → edition_of r.contact ≡ 2 → (t : ℕ) (b : Bundle) → 0 < b.size.0 → (send : Interval) → run_of r t b ≡ Break send
     → send.start.0 < send.end.0
 found_after r q two t b pos send e =
     end_after (rates_of r.contact) send.start.0 b.size.0 pos (edition_of r.contact) _ send.end (found-free r q t b send e).ends two
@@ -27,12 +27,11 @@ found_after r q two t b pos send e =
 module _ (r : PrioritySeg) (at : Date) (b : Bundle) (two : edition_of r.contact ≡ 2) where
   answer-after : record_ok r ≡ true → bundle_ok at b ≡ true → (x : Run) → run_of r at.0 b ≡ x → (answer_to r x).number ≡ 0
       → (answer_to r x).dates.send.start.0 < (answer_to r x).dates.send.end.0
-  answer-after ok fits (Sent send) e z =
+  answer-after ok fits (Break send) e z =
       let q = facts r ok in
       let pos = (load b (asked-load at b fits)).some in
       rw (found-answers r q at.0 b send e pos).sends (found_after r q two at.0 b pos send e)
-  answer-after ok fits (Going send) e z = absurd (omega (arith, z))
-  answer-after ok fits Idle e z = absurd (omega (arith, z))
+  answer-after ok fits (Continue now) e z = absurd (omega (arith, z))
 
   pub offer-after : (dry_run_of r at b).number ≡ 0 → (dry_run_of r at b).dates.send.start.0 < (dry_run_of r at b).dates.send.end.0
   unfolding dry_run_of

@@ -26,13 +26,14 @@ use Rattle.contact.specs.Choices.{flagging}
 use Rattle.contact.specs.Open.{open_contact}
 use Rattle.contact.specs.Record.{edition_of, strict_of}
 use Rattle.contact.proofs.Twin.{contact-twin, open-twin as contact-open-twin, managed-twin}
-use Rattle.bookings.specs.declared.Run.{Run}
-use Rattle.bookings.specs.declared.Run.TheVariants.{Idle, Going, Sent}
+use Rattle.bookings.specs.Search.{Run}
+use Rattle.std.specs.declared.ops.ControlFlow.TheVariants.{Continue, Break}
 use Rattle.pseg.specs.declared.PrioritySeg.{PrioritySeg}
 use Rattle.pseg.specs.declared.Opened.{Opened}
 use Rattle.pseg.specs.declared.Booked.{Booked}
 use Rattle.pseg.specs.declared.Listing.{Listing}
-use Rattle.pseg.specs.Open.{list_in, whole_window, refused_opening, opened_of, open_of}
+use Rattle.bookings.specs.Cut.{list_in}
+use Rattle.pseg.specs.Open.{whole_window, refused_opening, opened_of, open_of}
 use Rattle.pseg.specs.Record.{bookings_ok, record_ok}
 use Rattle.pseg.specs.DryRun.{dry_run_of, run_of, answer_to}
 use Rattle.pseg.specs.Book.{book_of, booked_at, refused_booking}
@@ -68,14 +69,12 @@ module _ (r : PrioritySeg) where
   list-twin = rw record-twin
 
   booked-twin : (x : Run) (p : ℕ) → booked_at (flagged 1 r) x p ≡ turned 1 (booked_at (flagged 0 r) x p)
-  booked-twin (Sent send) p = refl
-  booked-twin (Going send) p = refl
-  booked-twin Idle p = refl
+  booked-twin (Break send) p = refl
+  booked-twin (Continue now) p = refl
 
   answer-twin : (x : Run) → answer_to (flagged 1 r) x ≡ answer_to (flagged 0 r) x
-  answer-twin (Sent send) = refl
-  answer-twin (Going send) = refl
-  answer-twin Idle = refl
+  answer-twin (Break send) = refl
+  answer-twin (Continue now) = refl
 
 -- 02's sentence
 pub strict-twins : Twins promised flagged turned refused_booking

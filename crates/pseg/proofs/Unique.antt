@@ -12,8 +12,6 @@ use Rattle.segmentation.specs.declared.RateSegment.{RateSegment}
 use Rattle.segmentation.specs.declared.DelaySegment.{DelaySegment}
 use Rattle.contact.specs.declared.Choices.{Choices}
 use Rattle.pseg.specs.declared.PrioritySeg.{PrioritySeg}
-use Rattle.pseg.proofs.nothing.Reads as nothing-reads
-use Rattle.pseg.proofs.whole.Reads as whole-reads
 use Rattle.pseg.proofs.PrioritySeg.open.Reads as open-reads
 use Rattle.pseg.proofs.PrioritySeg.ok.Reads as ok-reads
 use Rattle.pseg.proofs.PrioritySeg.dry_run_kept.Reads as dry-run-kept-reads
@@ -22,12 +20,6 @@ use Rattle.pseg.proofs.PrioritySeg.book_kept.Reads as book-kept-reads
 use Rattle.pseg.proofs.PrioritySeg.book.Reads as book-reads
 use Rattle.pseg.proofs.PrioritySeg.set.Reads as set_Reads
 use Rattle.pseg.proofs.PrioritySeg.list.Reads as list-reads
-
-pub nothing-unique : Determined (nothing-reads.Post tt tt)
-nothing-unique r q x y f g = f ∙ sym g
-
-pub whole_unique : (w : Interval) → Determined (whole-reads.Post tt (w, tt))
-whole_unique w r q x y f g = f ∙ sym g
 
 pub open-unique : (h : Choices) (w : Interval) (rates : List RateSegment) (m : ℕ) (delays : List DelaySegment) (k : ℕ) → Determined (open-reads.Post tt (h, (w, (rates, (m, (delays, (k, tt)))))))
 open-unique h w rates m delays k r q x y f g = f ∙ sym g

@@ -8,8 +8,8 @@ use Rattle.units.specs.Limits.{bundle_ok}
 use Rattle.units.specs.Answer.{offers, booking_of}
 use Rattle.units.specs.Strict.{forbids}
 use Rattle.contact.specs.Record.{strict_of}
-use Rattle.bookings.specs.declared.Run.{Run}
-use Rattle.bookings.specs.declared.Run.TheVariants.{Idle, Going, Sent}
+use Rattle.bookings.specs.Search.{Run}
+use Rattle.std.specs.declared.ops.ControlFlow.TheVariants.{Continue, Break}
 use Rattle.bookings.specs.declared.Set.{Set}
 use Rattle.bookings.specs.Cut.{set_bookings}
 use Rattle.pseg.specs.declared.PrioritySeg.{PrioritySeg}
@@ -32,9 +32,8 @@ booked_of r send p =
 
 -- the send interval that the dry run found is set to the priority
 abbrev pub booked_at : PrioritySeg → Run → ℕ → Booked
-booked_at r (Sent send) p = booked_of r send p
-booked_at r (Going send) p = refused_booking 9 r
-booked_at r Idle p = refused_booking 9 r
+booked_at r (Break send) p = booked_of r send p
+booked_at r (Continue now) p = refused_booking 9 r
 
 -- the booking
 unfoldable pub book_of : PrioritySeg → Date → Bundle → TxData → Booked

@@ -6,3 +6,4 @@ pub mod Strict
 pub mod List
 pub mod FirstOffer
 pub mod Ranked
+pub mod Granted

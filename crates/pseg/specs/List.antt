@@ -4,7 +4,7 @@ use Rattle.units.specs.Logic.{unless}
 use Rattle.pseg.specs.declared.PrioritySeg.{PrioritySeg}
 use Rattle.pseg.specs.declared.Listing.{Listing}
 use Rattle.pseg.specs.Record.{record_ok}
-use Rattle.pseg.specs.Open.{list_in}
+use Rattle.bookings.specs.Cut.{list_in}
 
 -- the list
 unfoldable pub list_of : PrioritySeg → Listing

@@ -1,5 +1,5 @@
 -- 01, "Refusal numbers", Opening, and "Records": 3, 4, 6, 5, and 02's 2 before all else; the whole window is listed, with -1.
-use Rattle.std.specs.Prelude.{ℕ, List, [], ◌∷◌, eqb, length}
+use Rattle.std.specs.Prelude.{ℕ, List, [], ◌∷◌, eqb}
 use Rattle.units.specs.declared.Interval.{Interval}
 use Rattle.units.specs.Logic.{unless}
 use Rattle.segmentation.specs.declared.RateSegment.{RateSegment}
@@ -8,13 +8,8 @@ use Rattle.contact.specs.declared.Choices.{Choices}
 use Rattle.contact.specs.Open.{open_contact, refused_contact}
 use Rattle.contact.specs.declared.Opened.{Opened as ContactOpened}
 use Rattle.bookings.specs.declared.BookingSegment.{BookingSegment}
-use Rattle.bookings.specs.declared.Bookings.{Bookings}
-use Rattle.bookings.specs.Cut.{laid_of}
+use Rattle.bookings.specs.Cut.{list_in}
 use Rattle.pseg.specs.declared.Opened.{Opened}
-
--- the record's list of these segments
-abbrev pub list_in : List BookingSegment → Bookings
-list_in f = record { segments = laid_of f; count = length f }
 
 -- level 0 stands for -1: nothing is booked
 abbrev pub whole_window : Interval → BookingSegment

@@ -1,25 +1,33 @@
 // The priority manager (pseg.rs: PSegmentationManager): open, dry run, book, list.
 #![tactic(auto)]
 
-ghost use Rattle.std.specs.Prelude.{◌≡◌, true, List, [], ◌∷◌, ◌≤◌};
-ghost use Rattle.units.specs.Limits.{priority_max};
-ghost use Rattle.pseg.specs.Open.{open_of, refused_opening, list_in, whole_window};
+ghost use Rattle.std.specs.Prelude.{◌≡◌, true, [], ◌∷◌, ◌≤◌, MatchResult};
+ghost use Rattle.std.specs.declared.ops.ControlFlow.TheVariants.{Break};
+ghost use Rattle.units.specs.Limits.{priority_max, bundle_ok};
+ghost use Rattle.units.specs.Answer.{refused};
+ghost use Rattle.units.specs.Refusal.{number_of};
+ghost use Rattle.bookings.specs.Cut.{list_in};
+ghost use Rattle.pseg.specs.Open.{open_of, refused_opening, whole_window};
 ghost use Rattle.pseg.specs.Record.{record_ok};
-ghost use Rattle.pseg.specs.DryRun.{dry_run_of};
+ghost use Rattle.pseg.specs.DryRun.{dry_run_of, run_of};
 ghost use Rattle.pseg.specs.Book.{book_of, set_list, refused_booking};
 ghost use Rattle.pseg.specs.List.{list_of};
+ghost use Rattle.pseg.specs.Granted.{booked_in};
 
-use bookings::{BookingSegment, Bookings, Level, Run, Set};
+use bookings::{BookingSegment, Bookings, Level, Search, Set};
 use contact::{Choices, Contact};
 use segmentation::{DelaySegment, RateSegment};
+use units::refusal::Refusal;
 use units::{Bundle, Date, Interval, Offer, Priority, TxData};
 
 #[repr(C)]
-#[derive(Clone, Copy)]
+#[derive(Clone, Copy, Default)]
 pub struct PrioritySeg {
     pub contact: Contact,
     pub bookings: Bookings,
 }
+
+// Numbers beside values: the C interface has the answers so, and `open_of`, `book_of` and `list_of` say them so.
 
 // The answer of an opening: 01's number and the record, which is zero on a refusal.
 #[repr(C)]
@@ -45,67 +53,44 @@ pub struct Listing {
     pub list: Bookings,
 }
 
-// A list with nothing in it.
-pub fn nothing() -> Bookings
-    ensures { result ≡ list_in [] }
-{
-    let zero = BookingSegment {
-        start: Date(0),
-        end: Date(0),
-        level: Level(0),
-    };
-    let segments = [zero; Bookings::COUNT_MAX];
-    Bookings {
-        segments: segments,
-        count: 0,
-    }
-}
-
-// A list of the whole window, with nothing booked.
-pub fn whole(window: Interval) -> Bookings
-    ensures { result ≡ list_in (whole_window window ∷ []) }
-{
-    let none = nothing();
-    let start = window.start;
-    let end = window.end;
-    let mut segments = none.segments;
-    segments[0] = BookingSegment {
-        start: start,
-        end: end,
-        level: Level(0),
-    };
-    Bookings {
-        segments: segments,
-        count: 1,
-    }
-}
-
+// That a record keeps its rules is a clause and no part of its type: C hands records over that do not, and the clauses of the calls stay as they were.
 impl PrioritySeg {
-    fn refused_opening(number: u8) -> Opened
-        ensures { result ≡ refused_opening number }
+    // The whole window is listed, with -1.
+    fn accepted_opening(contact: Contact, window: Interval) -> Opened
+        ensures { result ≡ record { number = 0; manager = record { contact = contact; bookings = list_in (whole_window window ∷ []) } } }
     {
-        let o = Contact::refused(number);
-        let contact = o.contact;
-        let bookings = nothing();
+        let nothing = BookingSegment {
+            start: window.start,
+            end: window.end,
+            level: Level::default(),
+        };
+        let manager = PrioritySeg {
+            contact,
+            bookings: Bookings::only(nothing),
+        };
+        Opened { number: 0, manager }
+    }
+
+    fn refused_opening(refusal: Refusal) -> Opened
+        ensures { result ≡ refused_opening (number_of refusal) }
+    {
         Opened {
-            number: number,
-            manager: PrioritySeg {
-                contact: contact,
-                bookings: bookings,
-            },
+            number: refusal.number(),
+            manager: PrioritySeg::default(),
         }
     }
 
-    fn refused_booking(self, number: u8) -> Booked
-        ensures { result ≡ refused_booking number self }
+    fn refused_booking(self, refusal: Refusal) -> Booked
+        ensures { result ≡ refused_booking (number_of refusal) self }
     {
         Booked {
-            number: number,
+            number: refusal.number(),
             manager: self,
         }
     }
 
     // new and try_init: 2 for a choice, then 3, 4, 6, 5 in this order; the whole window is listed, with -1.
+    // The arrays with their counts are what C gives.
     pub fn open(
         choices: Choices,
         window: Interval,
@@ -116,44 +101,43 @@ impl PrioritySeg {
     ) -> Opened
         ensures { result ≡ open_of choices window rates rate_count delays delay_count }
     {
-        let o = Contact::open(choices, window, rates, rate_count, delays, delay_count);
-        let number = o.number;
-        if number != 0 {
-            return PrioritySeg::refused_opening(number);
-        }
-        let contact = o.contact;
-        let bookings = whole(window);
-        Opened {
-            number: 0,
-            manager: PrioritySeg {
-                contact: contact,
-                bookings: bookings,
-            },
+        match Contact::opened(choices, window, &rates, rate_count, &delays, delay_count) {
+            Ok((contact, _)) => PrioritySeg::accepted_opening(contact, window),
+            Err(refusal) => PrioritySeg::refused_opening(refusal),
         }
     }
 
     // Does the record keep its rules?
+    #[tactic(auto, unfolding(crate::specs::Record::record_ok, crate::specs::Record::bookings_ok, units::specs::Logic::both))]
     pub fn ok(self) -> bool
         ensures { result ≡ record_ok self }
     {
-        let contact = self.contact;
-        let bookings = self.bookings;
-        let window = contact.window;
-        let segments = bookings.segments;
-        let n = bookings.count;
-        if !contact.ok() {
-            return false;
+        let list = &self.bookings;
+        self.contact.ok()
+            && (1..=Bookings::COUNT_MAX).contains(&list.count)
+            && bookings::cover_ok(list.listed(), self.contact.window)
+            && units::blank::unused(&list.segments[list.count..])
+    }
+
+    // The run that is offered: 2 or 7.
+    fn found(self, at: Date, bundle: Bundle) -> Result<Interval, Refusal>
+        requires kept { record_ok self ≡ true }
+        ensures { MatchResult result (λ send. (bundle_ok at bundle ≡ true) × (run_of self at.0 bundle ≡ Break send)) (λ e. dry_run_of self at bundle ≡ refused (number_of e)) }
+    {
+        if !bundle.ok_at(at) {
+            return Err(Refusal::Bundle);
         }
-        if n < 1 {
-            return false;
-        }
-        if Bookings::COUNT_MAX < n {
-            return false;
-        }
-        if !bookings::cover_ok(segments, n, window) {
-            return false;
-        }
-        bookings::unused(segments, n)
+        let search = Search {
+            edition: self.contact.choices.edition,
+            rates: self.contact.rates(),
+            window: self.contact.window,
+            asked: at,
+            size: bundle.size,
+            priority: bundle.priority,
+        };
+        search
+            .find_run(self.bookings.listed())
+            .ok_or(Refusal::NoOffer)
     }
 
     // The dry run on a record that keeps its rules, without testing it again: for a caller who holds such a record.
@@ -161,36 +145,32 @@ impl PrioritySeg {
         requires { record_ok self ≡ true }
         ensures { result ≡ dry_run_of self at bundle }
     {
-        if !bundle.ok_at(at) {
-            return Offer::refused(units::refusal::BUNDLE);
+        match self.found(at, bundle) {
+            Ok(send) => self.contact.answer(send),
+            Err(refusal) => Offer::refused(refusal.number()),
         }
-        let contact = self.contact;
-        let bookings = self.bookings;
-        let choices = contact.choices;
-        let edition = choices.edition;
-        let window = contact.window;
-        let rates = contact.rates;
-        let m = contact.rate_count;
-        let segments = bookings.segments;
-        let n = bookings.count;
-        let size = bundle.size;
-        let priority = bundle.priority;
-        let Run::Sent(send) = bookings::find_run(
-            edition, rates, m, window, segments, n, at, size, priority,
-        ) else {
-            return Offer::refused(units::refusal::NO_OFFER);
-        };
-        contact.answer(send)
     }
 
     // dry_run_tx: 1, 2, then 7 or 8.
+    #[tactic(auto, unfolding(crate::specs::DryRun::dry_run_of))]
     pub fn dry_run(self, at: Date, bundle: Bundle) -> Offer
         ensures { result ≡ dry_run_of self at bundle }
     {
         if !self.ok() {
-            return Offer::refused(units::refusal::RECORD);
+            return Offer::refused(Refusal::Record.number());
         }
         self.dry_run_kept(at, bundle)
+    }
+
+    // The record with the booking: 2, 9, 17, then 10.
+    fn booked(self, at: Date, bundle: Bundle, dates: TxData) -> Result<PrioritySeg, Refusal>
+        requires kept { record_ok self ≡ true }
+        ensures { booked_in self result ≡ book_of self at bundle dates }
+    {
+        self.dry_run_kept(at, bundle)
+            .check(self.contact.choices.strict, dates)?;
+        let bookings = self.bookings.set(dates.send, Level::from(bundle.priority))?;
+        Ok(PrioritySeg { bookings, ..self })
     }
 
     // The booking on such a record.
@@ -198,29 +178,19 @@ impl PrioritySeg {
         requires { record_ok self ≡ true }
         ensures { result ≡ book_of self at bundle dates }
     {
-        let offer = self.dry_run_kept(at, bundle);
-        let number = offer.refusal(self.contact.choices.strict, dates);
-        if number != 0 {
-            return self.refused_booking(number);
-        }
-        let send = dates.send;
-        let priority = bundle.priority;
-        let done = self.set(send, priority);
-        let left = done.bookings;
-        let mut next = self;
-        next.bookings = left;
-        Booked {
-            number: done.number,
-            manager: next,
+        match self.booked(at, bundle, dates) {
+            Ok(manager) => Booked { number: 0, manager },
+            Err(refusal) => self.refused_booking(refusal),
         }
     }
 
     // schedule_tx, with the time that the dry run was asked: 1, 2, 9, 17, then 10.
+    #[tactic(auto, unfolding(crate::specs::Book::book_of))]
     pub fn book(self, at: Date, bundle: Bundle, dates: TxData) -> Booked
         ensures { result ≡ book_of self at bundle dates }
     {
         if !self.ok() {
-            return self.refused_booking(units::refusal::RECORD);
+            return self.refused_booking(Refusal::Record);
         }
         self.book_kept(at, bundle, dates)
     }
@@ -231,25 +201,24 @@ impl PrioritySeg {
         requires fact_2 { priority.0 ≤ priority_max }
         ensures { result ≡ set_list self send priority.0 }
     {
-        let bookings = self.bookings;
-        bookings.set(send, Level::of(priority))
+        let done = self.bookings.set(send, Level::from(priority));
+        Set::told(self.bookings, done)
     }
 
     // The listed segments: 1.
+    #[tactic(auto, unfolding(crate::specs::List::list_of))]
     pub fn list(self) -> Listing
         ensures { result ≡ list_of self }
     {
         if !self.ok() {
-            let none = nothing();
             return Listing {
-                number: units::refusal::RECORD,
-                list: none,
+                number: Refusal::Record.number(),
+                list: Bookings::default(),
             };
         }
-        let bookings = self.bookings;
         Listing {
             number: 0,
-            list: bookings,
+            list: self.bookings,
         }
     }
 }

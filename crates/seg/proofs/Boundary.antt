@@ -10,8 +10,8 @@ use Rattle.units.proofs.Loads.{asked-load, load}
 use Rattle.units.proofs.Booking.{offer-keeps}
 use Rattle.contact.specs.Boundary.{Received}
 use Rattle.contact.specs.Record.{delay_list}
-use Rattle.free_list.specs.declared.Found.{Found}
-use Rattle.free_list.specs.declared.Found.TheVariants.{At, None}
+use Rattle.free_list.specs.declared.Fit.{Fit}
+use Rattle.std.specs.Prelude.{Option, Some, None}
 use Rattle.seg.specs.declared.FreeVolume.{FreeVolume}
 use Rattle.seg.specs.Record.{record_ok}
 use Rattle.seg.specs.DryRun.{found_of, answer_to, dry_run_of}
@@ -21,8 +21,8 @@ module _ (r : FreeVolume) (at : Date) (b : Bundle) (two : r.contact.choices.rule
   abbrev By : Offer → Type 0
   By o = Received r.contact.window.end.0 (delay_list r.contact) o
 
-  answer-received : record_ok r ≡ true → bundle_ok at b ≡ true → (f : Found) → found_of r at.0 b.size.0 ≡ f → (answer_to r f).number ≡ 0 → By (answer_to r f)
-  answer-received ok fits (At i send) e z = found-received r (facts r ok) at.0 b.size.0 (load b (asked-load at b fits)).some i send e two
+  answer-received : record_ok r ≡ true → bundle_ok at b ≡ true → (f : Option Fit) → found_of r at.0 b.size.0 ≡ f → (answer_to r f).number ≡ 0 → By (answer_to r f)
+  answer-received ok fits (Some x) e z = found-received r (facts r ok) at.0 b.size.0 (load b (asked-load at b fits)).some x.place x.send e two
   answer-received ok fits None e z = absurd (omega (arith, z))
 
   pub offer-received : (dry_run_of r at b).number ≡ 0 → By (dry_run_of r at b)

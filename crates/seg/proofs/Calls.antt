@@ -21,9 +21,10 @@ use Rattle.units.proofs.Booking.{refusal-none}
 use Rattle.units.proofs.Loads.{asked-load, load}
 use Rattle.segmentation.specs.declared.Delays.{Delays}
 use Rattle.contact.specs.Record.{edition_of, strict_of, rates_of, delays_at}
-use Rattle.free_list.specs.declared.Found.{Found}
-use Rattle.free_list.specs.declared.Found.TheVariants.{At, None}
+use Rattle.free_list.specs.declared.Fit.{Fit}
+use Rattle.std.specs.Prelude.{Option, Some, None}
 use Rattle.free_list.specs.declared.Cut.{Cut}
+use Rattle.free_list.specs.Offer.{fit_at}
 use Rattle.free_list.specs.Granted.{Inside, none_chosen, chosen_at, chosen_in}
 use Rattle.free_list.proofs.CutList.{cut-number, cut-refused}
 use Rattle.free_list.proofs.ByChoice.{chosen-stop, chosen-found as by-found, table, table-refused, table_fits, table-found, table_done}
@@ -52,37 +53,29 @@ module _ (r : FreeVolume) (q : Facts r) (i : ℕ) (send : Interval) (v : ℕ) wh
 
 -- a booking's own numbers are 0, 9 and 10
 module _ (r : FreeVolume) (n : ℕ) (other : (n ≡ 0 → ⊥) × (n ≡ 9 → ⊥) × (n ≡ 10 → ⊥)) where
-  pub booked-number : (f : Found) (v : ℕ) → (booked_at r f v).number ≡ n → ⊥
-  booked-number (At i send) v =
-      unless-keeps (λ (x : Booked). x.number ≡ n → ⊥) (eqb (cut_free r i send v).number 0) _ _
-      (λ _ h. ⊎_elim (λ (z : (cut_free r i send v).number ≡ 0). other.0 (sym h ∙ z)) (λ (z : (cut_free r i send v).number ≡ 10). other.2 (sym h ∙ z))
-      (cut-number (edition_of r.contact) (rates_of r.contact) r.free i send.start.0 send.end.0 v))
+  pub booked-number : (f : Option Fit) (v : ℕ) → (booked_at r f v).number ≡ n → ⊥
+  booked-number (Some f) v =
+      unless-keeps (λ (x : Booked). x.number ≡ n → ⊥) (eqb (cut_free r f.place f.send v).number 0) _ _
+      (λ _ h. ⊎_elim (λ (z : (cut_free r f.place f.send v).number ≡ 0). other.0 (sym h ∙ z)) (λ (z : (cut_free r f.place f.send v).number ≡ 10). other.2 (sym h ∙ z))
+      (cut-number (edition_of r.contact) (rates_of r.contact) r.free f.place f.send.start.0 f.send.end.0 v))
       (λ _ h. other.0 (sym h))
   booked-number None v = λ h. other.1 (sym h)
 
 module _ (r : FreeVolume) (at : Date) (b : Bundle) where
-  pub dry-record : record_ok r ≡ false → dry_run_of r at b ≡ refused 1
-  unfolding dry_run_of
-  dry-record e = unless-stop _ _ _ e
-
-  pub book-record : (d : TxData) → record_ok r ≡ false → book_of r at b d ≡ refused_booking 1 r
-  unfolding book_of
-  book-record d e = unless-stop _ _ _ e
-
   abbrev fits : Bool
   fits = bundle_ok at b
 
-  abbrev find : ℕ → ℕ → Delays
+  abbrev find : ℕ → ℕ → Option Delays
   find = delays_at r.contact
 
-  abbrev found : Found
+  abbrev found : Option Fit
   found = found_of r at.0 b.size.0
 
   pub chosen-bundle : bundle_ok at b ≡ false → chosen_of r at b ≡ none_chosen 2
   unfolding chosen_of
   chosen-bundle e = chosen-stop fits find found e
 
-  pub chosen-as : {f : Found} → bundle_ok at b ≡ true → found_of r at.0 b.size.0 ≡ f → chosen_of r at b ≡ chosen_at (delays_at r.contact) f
+  pub chosen-as : {f : Option Fit} → bundle_ok at b ≡ true → found_of r at.0 b.size.0 ≡ f → chosen_of r at b ≡ chosen_at (delays_at r.contact) f
   unfolding chosen_of
   chosen-as q e = by-found fits find found q e
 
@@ -91,8 +84,8 @@ module _ (r : FreeVolume) (at : Date) (b : Bundle) where
     unfolding chosen_of dry_run_of
     chosen-offer = same-offer fits found ∙ sym (unless-go _ _ _ ok)
       where
-        same-offer : (c : Bool) (f : Found) → (chosen_in c find f).offer ≡ unless c (refused 2) (answer_to r f)
-        same-offer true (At i send) = refl
+        same-offer : (c : Bool) (f : Option Fit) → (chosen_in c find f).offer ≡ unless c (refused 2) (answer_to r f)
+        same-offer true (Some x) = refl
         same-offer true None = refl
         same-offer false f = refl
 
@@ -103,7 +96,7 @@ module _ (r : FreeVolume) (at : Date) (b : Bundle) where
       abbrev strict : ℕ
       strict = strict_of r.contact
 
-      abbrev done : Found → Booked
+      abbrev done : Option Fit → Booked
       done f = booked_at r f b.size.0
 
       book-is : book_of r at b d ≡ table fits find found strict d refuse done
@@ -122,7 +115,7 @@ module _ (r : FreeVolume) (at : Date) (b : Bundle) where
         chosen-fits = table_fits fits find found strict d refuse done (refusal-none strict _ d none).0
 
         -- the dates send what the search found
-        pub chosen-found : found_of r at.0 b.size.0 ≡ At (chosen_of r at b).place d.send
+        pub chosen-found : found_of r at.0 b.size.0 ≡ fit_at (chosen_of r at b).place d.send
         unfolding chosen_of
         chosen-found = table-found fits find found strict d refuse done (refusal-none strict _ d none).0
 

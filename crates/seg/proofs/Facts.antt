@@ -19,7 +19,7 @@ use Rattle.contact.specs.Record.{contact_ok, rates_of, edition_of, end_rule, del
 use Rattle.contact.specs.Boundary.{Received}
 use Rattle.contact.proofs.Lookup.{Answers, contact-answers, contact-received}
 use Rattle.contact.proofs.Sound.{Sound, sound}
-use Rattle.free_list.specs.declared.Found.TheVariants.{At}
+use Rattle.free_list.specs.Offer.{fit_at}
 use Rattle.free_list.specs.declared.Cut.{Cut}
 use Rattle.free_list.specs.Granted.{Inside, Changes}
 use Rattle.free_list.specs.Listed.{list_ok}
@@ -62,7 +62,7 @@ facts r e =
     }
 
 -- the room is tested with the list
-same_tests : (a b l u e : Bool) → both (both a (both b (both l u))) e ≡ both a (both b (both (both l e) u))
+same_tests : (a b l u e : Bool) → both (both a (both b (both l u))) e ≡ both (both a b) (both (both l e) u)
 unfolding both
 same_tests false b l u e = refl
 same_tests true false l u e = refl
@@ -74,10 +74,9 @@ same_tests true true true false false = refl
 
 -- the record's test, in the order of the code
 pub record_is : (r : FreeVolume) → record_ok r ≡ both (contact_ok r.contact)
-    (both (leb 1 r.free.count)
-    (both (leb r.free.count listed_max)
+    (both (both (leb 1 r.free.count) (leb r.free.count listed_max))
     (both (both (list_ok (rates_of r.contact) r.contact.window.start.0 r.contact.window.end.0 (listed r.free)) (eqb r.room.0 (room_of (listed r.free))))
-    (all_of no_volume (drop r.free.count r.free.segments)))))
+    (all_of no_volume (drop r.free.count r.free.segments))))
 unfolding record_ok free_ok
 record_is r = ap (both (contact_ok r.contact)) (same_tests _ _ _ _ _)
 
@@ -100,7 +99,7 @@ left_is r x n q e = ap (λ (k : ℕ). with_left r x.list (record { 0 = k })) (e 
 pub own-list : (r : FreeVolume) → Facts r → with_free r r.free ≡ r
 own-list r q = ap (λ (n : ℕ). with_left r r.free (record { 0 = n })) (sym q.room)
 
-module _ (r : FreeVolume) (q : Facts r) (t v : ℕ) (pos : 0 < v) (i : ℕ) (send : Interval) (h : found_of r t v ≡ At i send) where
+module _ (r : FreeVolume) (q : Facts r) (t v : ℕ) (pos : 0 < v) (i : ℕ) (send : Interval) (h : found_of r t v ≡ fit_at i send) where
   -- the offer stands at a listed segment, with the laws of the end rule
   pub found-offered : Offered (edition_of r.contact) (rates_of r.contact) (top_of (rates_of r.contact)) (listed r.free) i send.start.0 send.end.0 v
   found-offered =

@@ -31,7 +31,7 @@ use Rattle.contact.specs.Open.{total_of, contact_of, open_contact}
 use Rattle.contact.proofs.Sound.{sound}
 use Rattle.contact.proofs.Fresh.{opened-ok, opened-total}
 use Rattle.contact.proofs.Refusals.{opened-is}
-use Rattle.free_list.specs.declared.Found.TheVariants.{At}
+use Rattle.free_list.specs.Offer.{fit_at}
 use Rattle.free_list.specs.Cut.{listed, list_in, cut_of, list_cut, whole_window}
 use Rattle.free_list.specs.Room.{room_of}
 use Rattle.free_list.proofs.ListedLaws.{Listed}
@@ -107,7 +107,7 @@ pub record Refused (r : FreeVolume) (a : Booked) : Type 0 where
 pub record Accepted (r : FreeVolume) (at : Date) (b : Bundle) (d : TxData) (a : Booked) : Type 0 where
   pub some : 0 < b.size.0
   pub place : ℕ
-  pub found : found_of r at.0 b.size.0 ≡ At place d.send
+  pub found : found_of r at.0 b.size.0 ≡ fit_at place d.send
   pub allowed : forbids (strict_of r.contact) d.send ≡ false
   pub few : length (cut_of (edition_of r.contact) (rates_of r.contact) (listed r.free) place d.send.start.0 d.send.end.0 b.size.0) ≤ listed_max
   pub number : a.number ≡ 0

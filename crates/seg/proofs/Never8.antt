@@ -23,8 +23,8 @@ use Rattle.contact.specs.declared.Opened.{Opened as ContactOpened}
 use Rattle.contact.specs.Open.{open_contact}
 use Rattle.contact.specs.Record.{strict_of}
 use Rattle.contact.proofs.Refusals.{opening-never-8}
-use Rattle.free_list.specs.declared.Found.{Found}
-use Rattle.free_list.specs.declared.Found.TheVariants.{At, None}
+use Rattle.free_list.specs.declared.Fit.{Fit}
+use Rattle.std.specs.Prelude.{Option, Some, None}
 use Rattle.seg.specs.declared.FreeVolume.{FreeVolume}
 use Rattle.seg.specs.declared.Opened.{Opened}
 use Rattle.seg.specs.declared.Booked.{Booked}
@@ -43,8 +43,8 @@ abbrev Not8 : ℕ → Type 0
 Not8 n = n ≡ 8 → ⊥
 
 module _ (r : FreeVolume) (at : Date) (b : Bundle) where
-  answer-never-8 : record_ok r ≡ true → bundle_ok at b ≡ true → (f : Found) → found_of r at.0 b.size.0 ≡ f → Not8 (answer_to r f).number
-  answer-never-8 ok fits (At i send) e h = omega (arith, h, (found-answers r (facts r ok) at.0 b.size.0 (load b (asked-load at b fits)).some i send e).number)
+  answer-never-8 : record_ok r ≡ true → bundle_ok at b ≡ true → (f : Option Fit) → found_of r at.0 b.size.0 ≡ f → Not8 (answer_to r f).number
+  answer-never-8 ok fits (Some x) e h = omega (arith, h, (found-answers r (facts r ok) at.0 b.size.0 (load b (asked-load at b fits)).some x.place x.send e).number)
   answer-never-8 ok fits None e h = omega arith
 
   pub dry-never-8 : Not8 (dry_run_of r at b).number

@@ -20,8 +20,8 @@ use Rattle.segmentation.proofs.Answered.{answer-number as answered-number}
 use Rattle.contact.specs.declared.Choices.{Choices}
 use Rattle.contact.specs.Open.{contact_of}
 use Rattle.contact.specs.Record.{delays_at}
-use Rattle.free_list.specs.declared.Found.{Found}
-use Rattle.free_list.specs.declared.Found.TheVariants.{At, None}
+use Rattle.free_list.specs.declared.Fit.{Fit}
+use Rattle.std.specs.Prelude.{Option, Some, None}
 use Rattle.seg.specs.declared.FreeVolume.{FreeVolume}
 use Rattle.seg.specs.declared.Opened.{Opened}
 use Rattle.seg.specs.declared.RoomLeft.{RoomLeft}
@@ -60,8 +60,8 @@ run-contact x y ok runs =
     x y (ok, refl) runs
 
 -- an answer's own numbers are 0, 7 and 8
-answer-number : (r : FreeVolume) (n : ℕ) → (n ≡ 0 → ⊥) × (n ≡ 7 → ⊥) × (n ≡ 8 → ⊥) → (f : Found) → (answer_to r f).number ≡ n → ⊥
-answer-number r n other (At i send) h = answered-number n (other.0, other.2) _ _ (delays_at r.contact send.start.0 send.end.0) h
+answer-number : (r : FreeVolume) (n : ℕ) → (n ≡ 0 → ⊥) × (n ≡ 7 → ⊥) × (n ≡ 8 → ⊥) → (f : Option Fit) → (answer_to r f).number ≡ n → ⊥
+answer-number r n other (Some x) h = answered-number n (other.0, other.2) _ _ (delays_at r.contact x.send.start.0 x.send.end.0) h
 answer-number r n other None h = other.1 (sym h)
 
 -- no call on a record that keeps its rules answers 1

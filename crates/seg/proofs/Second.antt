@@ -23,8 +23,9 @@ use Rattle.contact.specs.Open.{total_of, contact_of}
 use Rattle.contact.specs.Record.{rates_of, edition_of, end_rule, total_in}
 use Rattle.contact.proofs.Sound.{sound}
 use Rattle.contact.proofs.Total.{window-total}
-use Rattle.free_list.specs.declared.Found.{Found}
-use Rattle.free_list.specs.declared.Found.TheVariants.{At, None}
+use Rattle.free_list.specs.declared.Fit.{Fit}
+use Rattle.std.specs.Prelude.{Option, Some, None}
+use Rattle.free_list.specs.Offer.{fit_at}
 use Rattle.free_list.specs.Cut.{listed, cut_of, whole_window}
 use Rattle.free_list.specs.Room.{listed_capacity, Exactly}
 use Rattle.free_list.proofs.Offered.{offer-picked, place-get}
@@ -46,7 +47,7 @@ ExactlyIn r = Exactly (rates_of r.contact) (listed r.free)
 pub room-exactly : (r : FreeVolume) → record_ok r ≡ true → ExactlyIn r → r.room.0 ≡ listed_time r
 room-exactly r ok q = rw (facts r ok).room (exactly-room _ _ q)
 
-module _ (r : FreeVolume) (q : Facts r) (two : edition_of r.contact ≡ 2) (t v : ℕ) (pos : 0 < v) (i : ℕ) (send : Interval) (h : found_of r t v ≡ At i send) where
+module _ (r : FreeVolume) (q : Facts r) (two : edition_of r.contact ≡ 2) (t v : ℕ) (pos : 0 < v) (i : ℕ) (send : Interval) (h : found_of r t v ≡ fit_at i send) where
   pub found_after : send.start.0 < send.end.0
   found_after =
       let p = place-get _ (listed r.free) i (offer-picked (end_rule r.contact) (rates_of r.contact) r.contact.window.end.0 t v send (listed r.free) _ i q.free h) in
@@ -54,12 +55,12 @@ module _ (r : FreeVolume) (q : Facts r) (two : edition_of r.contact ≡ 2) (t v 
 
 -- so an offer has a length: no send of zero length is offered
 module _ (r : FreeVolume) (at : Date) (b : Bundle) (two : edition_of r.contact ≡ 2) where
-  answer-after : record_ok r ≡ true → bundle_ok at b ≡ true → (f : Found) → found_of r at.0 b.size.0 ≡ f → (answer_to r f).number ≡ 0
+  answer-after : record_ok r ≡ true → bundle_ok at b ≡ true → (f : Option Fit) → found_of r at.0 b.size.0 ≡ f → (answer_to r f).number ≡ 0
       → (answer_to r f).dates.send.start.0 < (answer_to r f).dates.send.end.0
-  answer-after ok fits (At i send) e z =
+  answer-after ok fits (Some x) e z =
       let q = facts r ok in
       let pos = (load b (asked-load at b fits)).some in
-      rw (found-answers r q at.0 b.size.0 pos i send e).sends (found_after r q two at.0 b.size.0 pos i send e)
+      rw (found-answers r q at.0 b.size.0 pos x.place x.send e).sends (found_after r q two at.0 b.size.0 pos x.place x.send e)
   answer-after ok fits None e z = absurd (omega (arith, z))
 
   pub offer-after : (dry_run_of r at b).number ≡ 0 → (dry_run_of r at b).dates.send.start.0 < (dry_run_of r at b).dates.send.end.0

@@ -27,8 +27,8 @@ use Rattle.contact.specs.Choices.{flagging}
 use Rattle.contact.specs.Open.{open_contact}
 use Rattle.contact.specs.Record.{edition_of, strict_of}
 use Rattle.contact.proofs.Twin.{contact-twin, open-twin as contact-open-twin, managed-twin}
-use Rattle.free_list.specs.declared.Found.{Found}
-use Rattle.free_list.specs.declared.Found.TheVariants.{At, None}
+use Rattle.free_list.specs.declared.Fit.{Fit}
+use Rattle.std.specs.Prelude.{Option, Some, None}
 use Rattle.seg.specs.declared.FreeVolume.{FreeVolume}
 use Rattle.seg.specs.declared.Opened.{Opened}
 use Rattle.seg.specs.declared.Booked.{Booked}
@@ -75,12 +75,12 @@ module _ (r : FreeVolume) where
   unfolding room_answer
   room-twin = rw record-twin
 
-  booked-twin : (f : Found) (v : ℕ) → booked_at (flagged 1 r) f v ≡ turned 1 (booked_at (flagged 0 r) f v)
-  booked-twin (At i send) v = unless-turned (turned 1) (eqb (cut_free (flagged 0 r) i send v).number 0) refl refl
+  booked-twin : (f : Option Fit) (v : ℕ) → booked_at (flagged 1 r) f v ≡ turned 1 (booked_at (flagged 0 r) f v)
+  booked-twin (Some x) v = unless-turned (turned 1) (eqb (cut_free (flagged 0 r) x.place x.send v).number 0) refl refl
   booked-twin None v = refl
 
-  answer-twin : (f : Found) → answer_to (flagged 1 r) f ≡ answer_to (flagged 0 r) f
-  answer-twin (At i send) = refl
+  answer-twin : (f : Option Fit) → answer_to (flagged 1 r) f ≡ answer_to (flagged 0 r) f
+  answer-twin (Some x) = refl
   answer-twin None = refl
 
 -- 02's sentence

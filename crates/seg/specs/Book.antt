@@ -8,8 +8,8 @@ use Rattle.units.specs.Logic.{unless}
 use Rattle.units.specs.Limits.{bundle_ok}
 use Rattle.units.specs.Answer.{offers, booking_of}
 use Rattle.units.specs.Strict.{forbids}
-use Rattle.free_list.specs.declared.Found.{Found}
-use Rattle.free_list.specs.declared.Found.TheVariants.{At, None}
+use Rattle.free_list.specs.declared.Fit.{Fit}
+use Rattle.std.specs.Prelude.{Option, Some, None}
 use Rattle.free_list.specs.declared.Cut.{Cut}
 use Rattle.free_list.specs.Cut.{list_cut}
 use Rattle.seg.specs.declared.FreeVolume.{FreeVolume}
@@ -32,8 +32,8 @@ booked_of r i send v =
     unless (eqb done.number 0) (refused_booking done.number r) (record { number = 0; manager = with_free r done.list })
 
 -- the cut at what the dry run found
-abbrev pub booked_at : FreeVolume → Found → ℕ → Booked
-booked_at r (At i send) v = booked_of r i send v
+abbrev pub booked_at : FreeVolume → Option Fit → ℕ → Booked
+booked_at r (Some x) v = booked_of r x.place x.send v
 booked_at r None v = refused_booking 9 r
 
 -- the booking

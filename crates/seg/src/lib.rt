@@ -2,6 +2,7 @@
 #![tactic(auto)]
 
 ghost use Rattle.std.specs.Prelude.{◌≡◌, true};
+ghost use Rattle.units.specs.Refusal.{number_of};
 ghost use Rattle.free_list.specs.Granted.{Inside, Changes};
 ghost use Rattle.seg.specs.Open.{open_of, refused_opening};
 ghost use Rattle.seg.specs.Record.{record_ok};
@@ -12,21 +13,24 @@ ghost use Rattle.seg.specs.Room.{room_in, refused_room, room_answer};
 ghost use Rattle.seg.specs.Granted.{chosen_of};
 
 use contact::{Choices, Contact};
-use free_list::{Chosen, Cut, Found, FreeList};
+use free_list::{Chosen, Cut, FreeList};
 use segmentation::{DelaySegment, RateSegment};
+use units::blank::unused;
+use units::refusal::Refusal;
 use units::{Bundle, Date, Interval, Offer, TxData, Volume};
 
 #[repr(C)]
-#[derive(Clone, Copy)]
+#[derive(Clone, Copy, Default)]
 pub struct FreeVolume {
     pub contact: Contact,
     pub free: FreeList,
     pub room: Volume,
 }
 
+// The answers: 01's number beside a value, as the C interface has them. Each manager has its own types of answers, of which its `open_of`, `book_of` and `list_of` speak.
 // The answer of an opening: 01's number and the record, which is zero on a refusal.
 #[repr(C)]
-#[derive(Clone, Copy)]
+#[derive(Clone, Copy, Default)]
 pub struct Opened {
     pub number: u8,
     pub manager: FreeVolume,
@@ -42,7 +46,7 @@ pub struct Booked {
 
 // The answer of a list: 01's number and the listed segments, none on a refusal.
 #[repr(C)]
-#[derive(Clone, Copy)]
+#[derive(Clone, Copy, Default)]
 pub struct Listing {
     pub number: u8,
     pub list: FreeList,
@@ -50,7 +54,7 @@ pub struct Listing {
 
 // The answer of the room: 01's number and the sum of the listed volumes, 0 on a refusal.
 #[repr(C)]
-#[derive(Clone, Copy)]
+#[derive(Clone, Copy, PartialEq, Eq, Default)]
 pub struct RoomLeft {
     pub number: u8,
     pub room: Volume,
@@ -58,43 +62,38 @@ pub struct RoomLeft {
 
 impl RoomLeft {
     // A refusal shows no room.
-    fn refused(number: u8) -> RoomLeft
-        ensures { result ≡ refused_room number }
+    fn refused(refusal: Refusal) -> RoomLeft
+        ensures { result ≡ refused_room (number_of refusal) }
     {
         RoomLeft {
-            number: number,
-            room: Volume(0),
+            number: refusal.number(),
+            ..RoomLeft::default()
         }
     }
 }
 
+// `record_ok` stays a clause of the kept calls and of what is inside: they take a record as C holds it, docs/CALLS.md names them with that clause (`dry_run_kept`, `book_kept`), and a type with it as its invariant would ask more of their callers.
 impl FreeVolume {
-    fn refused_opening(number: u8) -> Opened
-        ensures { result ≡ refused_opening number }
+    fn refused_opening(refusal: Refusal) -> Opened
+        ensures { result ≡ refused_opening (number_of refusal) }
     {
-        let o = Contact::refused(number);
-        let contact = o.contact;
-        let free = FreeList::nothing();
         Opened {
-            number: number,
-            manager: FreeVolume {
-                contact: contact,
-                free: free,
-                room: Volume(0),
-            },
+            number: refusal.number(),
+            ..Opened::default()
         }
     }
 
-    fn refused_booking(self, number: u8) -> Booked
-        ensures { result ≡ refused_booking number self }
+    fn refused_booking(self, refusal: Refusal) -> Booked
+        ensures { result ≡ refused_booking (number_of refusal) self }
     {
         Booked {
-            number: number,
+            number: refusal.number(),
             manager: self,
         }
     }
 
     // new and try_init: 2 for a choice, then 3, 4, 6, 5 in this order; the whole window is listed, with the total volume.
+    // The arrays with their counts are what C gives.
     pub fn open(
         choices: Choices,
         window: Interval,
@@ -105,21 +104,16 @@ impl FreeVolume {
     ) -> Opened
         ensures { result ≡ open_of choices window rates rate_count delays delay_count }
     {
-        let o = Contact::open(choices, window, rates, rate_count, delays, delay_count);
-        let number = o.number;
-        if number != 0 {
-            return FreeVolume::refused_opening(number);
-        }
-        let contact = o.contact;
-        let total = o.total;
-        let free = FreeList::whole(window, total);
-        Opened {
-            number: 0,
-            manager: FreeVolume {
-                contact: contact,
-                free: free,
-                room: total,
+        match Contact::opened(choices, window, &rates, rate_count, &delays, delay_count) {
+            Ok((contact, total)) => Opened {
+                number: 0,
+                manager: FreeVolume {
+                    contact,
+                    free: FreeList::whole(window, total),
+                    room: total,
+                },
             },
+            Err(refusal) => FreeVolume::refused_opening(refusal),
         }
     }
 
@@ -127,56 +121,38 @@ impl FreeVolume {
     pub fn ok(self) -> bool
         ensures { result ≡ record_ok self }
     {
-        let contact = self.contact;
-        let free = self.free;
-        let window = contact.window;
-        let rates = contact.rates;
-        let m = contact.rate_count;
-        let room = self.room;
-        let segments = free.segments;
-        let n = free.count;
-        if !contact.ok() {
-            return false;
-        }
-        if n < 1 {
-            return false;
-        }
-        if FreeList::COUNT_MAX < n {
-            return false;
-        }
-        if !free_list::walk::listed_ok(rates, m, segments, n, window, room) {
-            return false;
-        }
-        free_list::unused(segments, n)
+        self.contact.ok()
+            && (1..=FreeList::COUNT_MAX).contains(&self.free.count)
+            && free_list::walk::listed_ok(
+                self.contact.rates(),
+                self.free.listed(),
+                self.contact.window,
+                self.room,
+            )
+            && unused(&self.free.segments[self.free.count..])
     }
 
     // What a dry run finds on a record that keeps its rules: its answer, and where it comes from.
+    // Its refusals stay numbers: the public answer `Chosen` has its number in the offer, where the delays' 8 stands too.
     pub fn chosen(self, at: Date, bundle: Bundle) -> Chosen
         requires { record_ok self ≡ true }
         ensures { result ≡ chosen_of self at bundle }
     {
         if !bundle.ok_at(at) {
-            return Chosen::refused(units::refusal::BUNDLE);
+            return Chosen::refused(Refusal::Bundle.number());
         }
-        let contact = self.contact;
-        let free = self.free;
-        let choices = contact.choices;
-        let edition = choices.edition;
-        let window = contact.window;
-        let rates = contact.rates;
-        let m = contact.rate_count;
-        let segments = free.segments;
-        let n = free.count;
-        let size = bundle.size;
-        let Found::At { place, send } = free_list::find_offer(
-            edition, rates, m, segments, n, window, at, size,
+        let Some(fit) = free_list::find_offer(
+            self.contact.choices.edition,
+            self.contact.rates(),
+            self.free.listed(),
+            at,
+            bundle.size,
         ) else {
-            return Chosen::refused(units::refusal::NO_OFFER);
+            return Chosen::refused(Refusal::NoOffer.number());
         };
-        let offer = contact.answer(send);
         Chosen {
-            offer: offer,
-            place: place,
+            offer: self.contact.answer(fit.send),
+            place: fit.place,
         }
     }
 
@@ -185,16 +161,16 @@ impl FreeVolume {
         requires { record_ok self ≡ true }
         ensures { result ≡ dry_run_of self at bundle }
     {
-        let c = self.chosen(at, bundle);
-        c.offer
+        self.chosen(at, bundle).offer
     }
 
     // dry_run_tx: 1, 2, then 7 or 8.
+    #[tactic(auto, unfolding(crate::specs::DryRun::dry_run_of))]
     pub fn dry_run(self, at: Date, bundle: Bundle) -> Offer
         ensures { result ≡ dry_run_of self at bundle }
     {
         if !self.ok() {
-            return Offer::refused(units::refusal::RECORD);
+            return Offer::refused(Refusal::Record.number());
         }
         self.dry_run_kept(at, bundle)
     }
@@ -204,36 +180,31 @@ impl FreeVolume {
         requires { record_ok self ≡ true }
         ensures { result ≡ book_of self at bundle dates }
     {
-        let c = self.chosen(at, bundle);
-        let offer = c.offer;
-        let place = c.place;
-        let number = offer.refusal(self.contact.choices.strict, dates);
-        if number != 0 {
-            return self.refused_booking(number);
-        }
-        let send = dates.send;
-        let size = bundle.size;
-        let done = self.cut(place, send, size);
-        let left = done.list;
-        let off = done.off;
-        let on = done.on;
-        let was = self.room;
-        let room = free_list::changed(was, off, on);
-        let mut next = self;
-        next.free = left;
-        next.room = room;
-        Booked {
-            number: done.number,
-            manager: next,
+        let found = self.chosen(at, bundle);
+        match found.offer.check(self.contact.choices.strict, dates) {
+            Ok(()) => {
+                let done = self.cut(found.place, dates.send, bundle.size);
+                let next = FreeVolume {
+                    free: done.list,
+                    room: free_list::changed(self.room, done.off, done.on),
+                    ..self
+                };
+                Booked {
+                    number: done.number,
+                    manager: next,
+                }
+            }
+            Err(refusal) => self.refused_booking(refusal),
         }
     }
 
     // schedule_tx, with the time that the dry run was asked: 1, 2, 9, 17, then 10.
+    #[tactic(auto, unfolding(crate::specs::Book::book_of))]
     pub fn book(self, at: Date, bundle: Bundle, dates: TxData) -> Booked
         ensures { result ≡ book_of self at bundle dates }
     {
         if !self.ok() {
-            return self.refused_booking(units::refusal::RECORD);
+            return self.refused_booking(Refusal::Record);
         }
         self.book_kept(at, bundle, dates)
     }
@@ -245,13 +216,13 @@ impl FreeVolume {
         ensures fact_1 { result ≡ cut_free self place send size.0 }
         ensures fact_2 { Changes self.room.0 result }
     {
-        let contact = self.contact;
-        let choices = contact.choices;
-        let edition = choices.edition;
-        let rates = contact.rates;
-        let m = contact.rate_count;
-        let free = self.free;
-        free.cut(edition, rates, m, place, send, size)
+        self.free.cut(
+            self.contact.choices.edition,
+            self.contact.rates(),
+            place,
+            send,
+            size,
+        )
     }
 
     // The room on a record that keeps its rules.
@@ -263,34 +234,33 @@ impl FreeVolume {
     }
 
     // The sum of the listed volumes: 1.
+    #[tactic(auto, unfolding(crate::specs::Room::room_answer))]
     pub fn room(self) -> RoomLeft
         ensures { result ≡ room_answer self }
     {
         if !self.ok() {
-            return RoomLeft::refused(units::refusal::RECORD);
+            return RoomLeft::refused(Refusal::Record);
         }
-        let room = self.room;
         RoomLeft {
             number: 0,
-            room: room,
+            room: self.room,
         }
     }
 
     // The listed segments: 1.
+    #[tactic(auto, unfolding(crate::specs::List::list_of))]
     pub fn list(self) -> Listing
         ensures { result ≡ list_of self }
     {
         if !self.ok() {
-            let none = FreeList::nothing();
             return Listing {
-                number: units::refusal::RECORD,
-                list: none,
+                number: Refusal::Record.number(),
+                ..Listing::default()
             };
         }
-        let free = self.free;
         Listing {
             number: 0,
-            list: free,
+            list: self.free,
         }
     }
 }

@@ -1,4 +1,5 @@
 -- What may be used of the delays: where they are found, that they are short, and the answer made of them.
+use Rattle.std.specs.Prelude.{Option, Some, None}
 use Prim.Native.Nat.{ℕ, ◌+◌, ◌<◌, ◌≤◌}
 use mathlib.Core.Bool.{Bool, true, false}
 use mathlib.Core.Path.{◌≡◌, refl, sym, ap, ◌∙◌}
@@ -17,7 +18,6 @@ use Rattle.units.specs.declared.Offer.{Offer}
 use Rattle.units.proofs.Logic.{both_yes, both_go, both-not, no_both, pick-keeps}
 use Rattle.segmentation.specs.declared.DelaySegment.{DelaySegment}
 use Rattle.segmentation.specs.declared.Delays.{Delays}
-use Rattle.segmentation.specs.declared.Delays.TheVariants.{Of, None}
 use Rattle.segmentation.specs.Delay.{lies_in, belongs, from_date, heads, delays_of, answer_of}
 use Rattle.segmentation.specs.Granted.{Short, AllShort}
 
@@ -82,10 +82,10 @@ Reaches rule t [] = ⊥
 Reaches rule t (d ∷ l) = (belongs rule t d (length l) ≡ true) ⊎ (Reaches rule t l)
 
 -- both lookups find a segment
-pub record Finds (r : Delays) : Type 0 where
+pub record Finds (r : Option Delays) : Type 0 where
   pub first : Delay
   pub last : Delay
-  pub is : r ≡ Of first last
+  pub is : r ≡ Some (record { first = first; last = last })
 
 -- by rule 1 a lookup passes no segment that a later date needs
 from-reaches : (rule : ℕ) → eqb rule 2 ≡ false → (l : List DelaySegment) (s e : ℕ) → s ≤ e → Reaches rule e l → Reaches rule e (from_date rule l s)
@@ -103,20 +103,20 @@ from-reaches rule one (d ∷ l) s e h r =
     (λ z. from-reaches rule one l s e h z) r)
 
 -- what a lookup finds is there, by either rule
-Some : List DelaySegment → Type 0
-Some [] = ⊥
-Some (d ∷ l) = Unit
+Filled : List DelaySegment → Type 0
+Filled [] = ⊥
+Filled (d ∷ l) = Unit
 
-from_some : (rule : ℕ) (l : List DelaySegment) (t : ℕ) → Reaches rule t l → Some (from_date rule l t)
-unfolding Reaches from_date Some
+from_some : (rule : ℕ) (l : List DelaySegment) (t : ℕ) → Reaches rule t l → Filled (from_date rule l t)
+unfolding Reaches from_date Filled
 from_some rule [] t r = r
 from_some rule (d ∷ l) t r =
-    pick-keeps Some (belongs rule t d (length l)) (d ∷ l) (from_date rule l t)
+    pick-keeps Filled (belongs rule t d (length l)) (d ∷ l) (from_date rule l t)
     (λ c. tt)
     (λ c. ⊎_elim (λ z. absurd (no_both z c)) (λ z. from_some rule l t z) r)
 
-heads-find : (l k : List DelaySegment) → Some l → Some k → Finds (heads l k)
-unfolding Some
+heads-find : (l k : List DelaySegment) → Filled l → Filled k → Finds (heads l k)
+unfolding Filled
 heads-find [] k h r = absurd h
 heads-find (a ∷ l) [] h r = absurd r
 heads-find (a ∷ l) (b ∷ k) h r = record { first = a.delay; last = b.delay; is = refl }
@@ -149,7 +149,7 @@ delays-short rule l s e h =
     (from-short rule _ e (pick-keeps (λ (k : List DelaySegment). AllShort k) (eqb rule 2) l (from_date rule l s) (λ c. h) (λ c. at)))
 
 -- The answer to each outcome of the lookups.
-module _ (d : Delays) (a b : Delay) (e : d ≡ Of a b) where
+module _ (d : Option Delays) (a b : Delay) (e : d ≡ Some (record { first = a; last = b })) where
   pub short-both : Short d → (a.0 ≤ delay_max) × (b.0 ≤ delay_max)
   short-both h = rw e at h
 
@@ -157,5 +157,5 @@ module _ (d : Delays) (a b : Delay) (e : d ≡ Of a b) where
       → ◌≡◌ {A = Offer} (record { number = 0; dates = record { send = send; recv = interval p q } }) (answer_of send.start.0 send.end.0 d)
   answer-of send p q h k = rw (e, h, k)
 
-pub answer-none : (d : Delays) (s e : ℕ) → d ≡ None → refused 8 ≡ answer_of s e d
+pub answer-none : (d : Option Delays) (s e : ℕ) → d ≡ None → refused 8 ≡ answer_of s e d
 answer-none d s e h = rw h

@@ -1,4 +1,6 @@
 -- The end that `end_of` gives has 01's sentence, for every size above 0, and it alone has.
+use Rattle.std.specs.Prelude.{Option, Some}
+use Rattle.units.specs.declared.Date.{Date}
 use Prim.Native.Nat.{ℕ, zero, suc, ◌+◌, ◌-◌, ◌<◌, ◌≤◌}
 use mathlib.Core.Path.{◌≡◌, sym, ap, ◌∙◌}
 use mathlib.Core.List.{List}
@@ -7,8 +9,6 @@ use native.Mathlib.Omega.{arith}
 use borrow.Author.Tests.{le-leb, lt-leb, eq-eqb, ne_eqb}
 use Rattle.units.proofs.Numbers.{le-or-lt, eq-or-ne}
 use Rattle.segmentation.specs.declared.VolumeSegment.{VolumeSegment}
-use Rattle.segmentation.specs.declared.End.{End}
-use Rattle.segmentation.specs.declared.End.TheVariants.{At}
 use Rattle.segmentation.specs.Capacity.{cap_of, capacity}
 use Rattle.segmentation.specs.End.{Reach, close_of, round_of, by_deadline, end_given, end_of}
 use Rattle.segmentation.specs.EndIs.{FirstTick, Rounded, EndIs, in-time, late, no-tick}
@@ -42,7 +42,7 @@ module _ (k : ℕ) (l : List VolumeSegment) (a v d : ℕ) (pos : 0 < v) where
         above = λ one q. let n : cap_of l a m ≡ v → ⊥ = λ e. omega (arith, q, e, cap-at m) in rw (ne_eqb k 2 one, ne_eqb (cap_of l a m) v n) (omega (arith, p));
       }
 
-  by-case : (m : ℕ) → m ≤ close_of a l - a → Reached l a v m → (r : End) → r ≡ by_deadline d (round_of k (cap_of l a m) v (a + m)) → EndIs k l a v (close_of a l) d r
+  by-case : (m : ℕ) → m ≤ close_of a l - a → Reached l a v m → (r : (Option Date)) → r ≡ by_deadline d (round_of k (cap_of l a m) v (a + m)) → EndIs k l a v (close_of a l) d r
   by-case m le h r e =
       let x = round_of k (cap_of l a m) v (a + m) in
       ⊎_elim
@@ -84,8 +84,8 @@ module _ (k : ℕ) (l : List VolumeSegment) (a v z d : ℕ) where
   same_end : (u w e f : ℕ) → FirstTick l a v z u → FirstTick l a v z w → Rounded k l a v u e → Rounded k l a v w f → e ≡ f
   same_end u w e f x y p q = let s : u ≡ w = one-tick u w x y in one_end u e f x p (rw s q)
 
-  pub one-end-is : (r s : End) → EndIs k l a v z d r → EndIs k l a v z d s → r ≡ s
-  one-end-is r s (in-time u e x p le h) (in-time w f y q lf g) = h ∙ ap (λ (n : ℕ). At (record { 0 = n })) (same_end u w e f x y p q) ∙ sym g
+  pub one-end-is : (r s : (Option Date)) → EndIs k l a v z d r → EndIs k l a v z d s → r ≡ s
+  one-end-is r s (in-time u e x p le h) (in-time w f y q lf g) = h ∙ ap (λ (n : ℕ). Some (record { 0 = n })) (same_end u w e f x y p q) ∙ sym g
   one-end-is r s (in-time u e x p le h) (late w f y q lf g) = absurd (omega (arith, le, lf, same_end u w e f x y p q))
   one-end-is r s (in-time u e x p le h) (no-tick n g) = absurd (n u x)
   one-end-is r s (late u e x p le h) (in-time w f y q lf g) = absurd (omega (arith, le, lf, same_end u w e f x y p q))

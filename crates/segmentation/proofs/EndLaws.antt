@@ -1,4 +1,5 @@
 -- What may be used of the end rule, in every edition: where an end lies, how near its capacity is to the size, that it is monotone, and that what follows does not matter.
+use Rattle.std.specs.Prelude.{Some, None}
 use Prim.Native.Nat.{ℕ, zero, suc, ◌+◌, ◌-◌, ◌<◌, ◌≤◌}
 use mathlib.Core.Bool.{Bool, true, false}
 use mathlib.Core.Path.{◌≡◌, refl, sym, ap, ◌∙◌}
@@ -11,7 +12,6 @@ use Rattle.units.specs.declared.Date.{Date}
 use Rattle.units.specs.Logic.{pick}
 use Rattle.units.proofs.Numbers.{le-or-lt, eq-or-ne}
 use Rattle.segmentation.specs.declared.VolumeSegment.{VolumeSegment}
-use Rattle.segmentation.specs.declared.End.TheVariants.{At, None}
 use Rattle.segmentation.specs.Capacity.{rate_at, cap_of, capacity, top_of}
 use Rattle.segmentation.specs.End.{Reach, close_of, round_of, by_deadline, end_given, end_of}
 use Rattle.segmentation.proofs.Capacity.{rate-top, cap-zero, cap-none, cap-same, cap-split}
@@ -49,22 +49,22 @@ record Rounds (k : ℕ) (l : List VolumeSegment) (a v d e : ℕ) : Type 0 where
   is : e ≡ round_of k (cap_of l a tick) v (a + tick)
   by : e ≤ d
 
-no_end : (e : Date) → None ≡ At e → ⊥
+no_end : (e : Date) → None ≡ Some e → ⊥
 no_end e h = let z : ◌≡◌ {A = ℕ} 0 1 = cc in omega arith
 
-by-at : (c : Bool) (u : ℕ) (e : Date) → pick c (At (record { 0 = u })) None ≡ At e → (c ≡ true) × (u ≡ e.0)
+by-at : (c : Bool) (u : ℕ) (e : Date) → pick c (Some (record { 0 = u })) None ≡ Some e → (c ≡ true) × (u ≡ e.0)
 by-at true u e h = let q : u ≡ e.0 = cc in (refl, q)
 by-at false u e h = absurd (no_end e h)
 
 module _ (k : ℕ) (l : List VolumeSegment) (a v d : ℕ) where
-  found-rounds : (r : Reach) (e : Date) → Found l a v (close_of a l - a) r → end_given k l a v d r ≡ At e → Rounds k l a v d e.0
+  found-rounds : (r : Reach) (e : Date) → Found l a v (close_of a l - a) r → end_given k l a v d r ≡ Some e → Rounds k l a v d e.0
   found-rounds r e (found m le h q) z =
       let x = by-at (leb (round_of k (cap_of l a m) v (a + m)) d) (round_of k (cap_of l a m) v (a + m)) e (sym (end_by k l a v d m r q) ∙ z) in
       let at : round_of k (cap_of l a m) v (a + m) ≤ d = leb-true _ _ x.0 in
       record { tick = m; within = le; first = h; is = sym x.1; by = rw x.1 at at }
   found-rounds r e (lost f q) z = absurd (no_end e (sym (end-never k l a v d r q) ∙ z))
 
-  end-rounds : (e : Date) → end_of k l a v d ≡ At e → Rounds k l a v d e.0
+  end-rounds : (e : Date) → end_of k l a v d ≡ Some e → Rounds k l a v d e.0
   unfolding end_of
   end-rounds e z = found-rounds _ e (reach-is l a v (close_of a l - a)) z
 
@@ -108,7 +108,7 @@ module _ (l : List VolumeSegment) (a v : ℕ) (pos : 0 < v) where
       (λ (z : 0 < n). z)
       (le-or-lt n 0)
 
-  module _ (k d : ℕ) (e : Date) (z : end_of k l a v d ≡ At e) where
+  module _ (k d : ℕ) (e : Date) (z : end_of k l a v d ≡ Some e) where
     abbrev q : Rounds k l a v d e.0
     q = end-rounds k l a v d e z
 
@@ -175,7 +175,7 @@ round-order k c v u b w t le f =
     (eq-or-ne k 2)
 
 -- a larger size ends no sooner
-pub end-monotone-size : (k : ℕ) (l : List VolumeSegment) (a v w d d' : ℕ) (e f : Date) → v ≤ w → end_of k l a v d ≡ At e → end_of k l a w d' ≡ At f → e.0 ≤ f.0
+pub end-monotone-size : (k : ℕ) (l : List VolumeSegment) (a v w d d' : ℕ) (e f : Date) → v ≤ w → end_of k l a v d ≡ Some e → end_of k l a w d' ≡ Some f → e.0 ≤ f.0
 end-monotone-size k l a v w d d' e f le h g =
     let p = end-rounds k l a v d e h in
     let q = end-rounds k l a w d' f g in
@@ -191,7 +191,7 @@ module _ (l : List VolumeSegment) (a b v : ℕ) (le : a ≤ b) where
   cap-sooner n = let e : a + (b - a) ≡ b = omega arith in rw (cap-split l a (b - a) n, e)
 
   -- a later start ends no sooner
-  pub end-monotone-start : (k d d' : ℕ) (e f : Date) → end_of k l a v d ≡ At e → end_of k l b v d' ≡ At f → e.0 ≤ f.0
+  pub end-monotone-start : (k d d' : ℕ) (e f : Date) → end_of k l a v d ≡ Some e → end_of k l b v d' ≡ Some f → e.0 ≤ f.0
   end-monotone-start k d d' e f h g =
       let p = end-rounds k l a v d e h in
       let q = end-rounds k l b v d' f g in
@@ -238,7 +238,7 @@ module _ (k : ℕ) (l : List VolumeSegment) (a v d : ℕ) (pos : 0 < v) (last : 
 
 -- What follows an end does not matter to it: where another window is no shorter and has the same rates up to the end, its end is the same.
 module _ (k : ℕ) (l m : List VolumeSegment) (a v d : ℕ) (longer : close_of a l ≤ close_of a m) (e : Date)
-    (alike : (t : ℕ) → a ≤ t → t ≤ e.0 → rate_at l t ≡ rate_at m t) (z : end_of k l a v d ≡ At e) where
+    (alike : (t : ℕ) → a ≤ t → t ≤ e.0 → rate_at l t ≡ rate_at m t) (z : end_of k l a v d ≡ Some e) where
   abbrev was : Rounds k l a v d e.0
   was = end-rounds k l a v d e z
 
@@ -252,7 +252,7 @@ module _ (k : ℕ) (l m : List VolumeSegment) (a v d : ℕ) (longer : close_of a
         before = λ n lt. omega (arith, was.first.before n lt, cap-alike n (omega arith));
       }
 
-  found_alike : (r : Reach) → Found m a v (close_of a m - a) r → end_given k m a v d r ≡ At e
+  found_alike : (r : Reach) → Found m a v (close_of a m - a) r → end_given k m a v d r ≡ Some e
   found_alike r (found n le h q) =
       end_by k m a v d n r q
       ∙ ap (λ (x : ℕ). by_deadline d (round_of k (cap_of m a x) v (a + x))) (first-unique m a v n was.tick h first_alike)
@@ -261,6 +261,6 @@ module _ (k : ℕ) (l m : List VolumeSegment) (a v d : ℕ) (longer : close_of a
       ∙ rw (le-leb _ _ was.by)
   found_alike r (lost f q) = absurd (omega (arith, f was.tick (omega (arith, was.within)), first_alike.reaches))
 
-  pub end-alike : end_of k m a v d ≡ At e
+  pub end-alike : end_of k m a v d ≡ Some e
   unfolding end_of
   end-alike = found_alike _ (reach-is m a v (close_of a m - a))

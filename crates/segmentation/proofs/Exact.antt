@@ -1,4 +1,6 @@
 -- The end found segment by segment is the end in exact terms.
+use Rattle.std.specs.Prelude.{Option, None}
+use Rattle.units.specs.declared.Date.{Date}
 use Prim.Native.Nat.{ℕ, suc, ◌+◌, ◌-◌, ◌*◌, ◌/◌, ◌<◌, ◌≤◌}
 use mathlib.Core.Path.{◌≡◌, refl, sym, ap, ◌∙◌}
 use mathlib.Core.List.{List, [], ◌∷◌}
@@ -10,8 +12,6 @@ use borrow.Author.Tests.{eq-eqb, ne_eqb}
 use Rattle.units.specs.Logic.{pick}
 use Rattle.units.proofs.Numbers.{le-or-lt, eq-or-ne}
 use Rattle.segmentation.specs.declared.VolumeSegment.{VolumeSegment}
-use Rattle.segmentation.specs.declared.End.{End}
-use Rattle.segmentation.specs.declared.End.TheVariants.{None}
 use Rattle.segmentation.specs.Granted.{Run, Covers, ticks_of}
 use Rattle.segmentation.specs.Capacity.{rate_of, cap_of}
 use Rattle.segmentation.specs.End.{Reach, close_of, round_of, by_deadline, end_given, end_of}
@@ -21,12 +21,12 @@ use Rattle.segmentation.proofs.Reach.{Reached, first-unique, Found, found, lost,
 use Rattle.segmentation.proofs.SegEnd.{carried_of, seg_end, seg-none, seg_skip, seg-here, seg-on}
 
 -- an end in exact terms, with no bound on the ticks searched
-pub data Exact (k : ℕ) (l : List VolumeSegment) (a v d : ℕ) (r : End) : Type 0 where
+pub data Exact (k : ℕ) (l : List VolumeSegment) (a v d : ℕ) (r : (Option Date)) : Type 0 where
   reached : (n : ℕ) → Reached l a v n → r ≡ by_deadline d (round_of k (cap_of l a n) v (a + n)) → Exact k l a v d r
   short : ((n : ℕ) → cap_of l a n < v) → r ≡ None → Exact k l a v d r
 
 -- the exact terms determine the end
-pub exact-unique : (k : ℕ) (l : List VolumeSegment) (a v d : ℕ) (r q : End) → Exact k l a v d r → Exact k l a v d q → r ≡ q
+pub exact-unique : (k : ℕ) (l : List VolumeSegment) (a v d : ℕ) (r q : (Option Date)) → Exact k l a v d r → Exact k l a v d q → r ≡ q
 exact-unique k l a v d r q (reached n h e) (reached m w f) =
     e ∙ ap (λ (x : ℕ). by_deadline d (round_of k (cap_of l a x) v (a + x))) (first-unique l a v n m h w) ∙ sym f
 exact-unique k l a v d r q (reached n h e) (short w f) = absurd (omega (arith, h.reaches, w n))
@@ -125,7 +125,7 @@ module _ (k : ℕ) (s : VolumeSegment) (l : List VolumeSegment) (a v d : ℕ)
   exact-here = reached (suc before) first (ap (λ (x : ℕ). by_deadline d x) ticks-are)
 
 -- Exact terms speak of the capacities alone.
-exact_same : (k : ℕ) (l m : List VolumeSegment) (a v d : ℕ) (r : End) → ((n : ℕ) → cap_of m a n ≡ cap_of l a n) → Exact k l a v d r → Exact k m a v d r
+exact_same : (k : ℕ) (l m : List VolumeSegment) (a v d : ℕ) (r : (Option Date)) → ((n : ℕ) → cap_of m a n ≡ cap_of l a n) → Exact k l a v d r → Exact k m a v d r
 exact_same k l m a v d r same (reached n h e) =
     reached n
     (record { reaches = rw (same n) h.reaches; before = λ i q. rw (same i) (h.before i q) })
@@ -141,7 +141,7 @@ round-shift k x c v u h =
     (eq-or-ne c (v - x))
 
 -- The segment is used up: the first tick is past its end.
-module _ (k : ℕ) (s : VolumeSegment) (l : List VolumeSegment) (a v d : ℕ) (r : End)
+module _ (k : ℕ) (s : VolumeSegment) (l : List VolumeSegment) (a v d : ℕ) (r : (Option Date))
     (from : s.start.0 ≤ a) (to : a ≤ s.end.0) (less : carried_of s a < v) where
   cap-early : (n : ℕ) → n ≤ s.end.0 - a → cap_of (s ∷ l) a n < v
   cap-early n h = rw (cap-in s l a n from (omega arith)) (omega (arith, mul-le-mul_left (rate_of s) h))

@@ -1,4 +1,6 @@
 -- The states of the loops over the rate segments: what is left of the list has the answer that is asked.
+use Rattle.std.specs.Prelude.{Option, None}
+use Rattle.units.specs.declared.Date.{Date}
 use Prim.Native.Nat.{ℕ, ◌+◌, ◌-◌, ◌*◌, ◌<◌, ◌≤◌}
 use mathlib.Core.Path.{◌≡◌, ◌∙◌}
 use mathlib.Core.List.{List, [], ◌∷◌}
@@ -7,8 +9,6 @@ use lib.ListN.{length, drop}
 use Rattle.units.specs.Limits.{volume_max}
 use Rattle.units.proofs.Loop.{Left, left-first, left_step, left_here, left_end}
 use Rattle.segmentation.specs.declared.VolumeSegment.{VolumeSegment}
-use Rattle.segmentation.specs.declared.End.{End}
-use Rattle.segmentation.specs.declared.End.TheVariants.{None}
 use Rattle.segmentation.specs.Granted.{SegOk, Run, Runs, Covers, ticks_of}
 use Rattle.segmentation.specs.Capacity.{rate_of, capacity}
 use Rattle.segmentation.specs.End.{by_deadline, end_of}
@@ -66,7 +66,7 @@ module _ (l : List VolumeSegment) (n a b i sum : ℕ) (s : VolumeSegment) (q : A
       }
 
 -- `find_end`: the date and what is still to send.
-abbrev pub end_from : ℕ → ℕ → ℕ × ℕ → List VolumeSegment → End
+abbrev pub end_from : ℕ → ℕ → ℕ × ℕ → List VolumeSegment → (Option Date)
 end_from k d s l = end_of k l s.0 s.1 d
 
 pub record Seeking (k : ℕ) (l : List VolumeSegment) (n d a v i at rest : ℕ) : Type 0 where

@@ -1,4 +1,5 @@
 -- The bounded search for the first tick finds it, or there is none within the bound.
+use Rattle.std.specs.Prelude.{None}
 use Prim.Native.Nat.{ℕ, zero, suc, ◌+◌, ◌-◌, ◌<◌, ◌≤◌}
 use mathlib.Core.Path.{◌≡◌, refl, sym, ap, ◌∙◌}
 use mathlib.Core.List.{List}
@@ -11,7 +12,6 @@ use Rattle.units.specs.Logic.{pick}
 use Rattle.units.proofs.Logic.{pick-keeps}
 use Rattle.units.proofs.Numbers.{le-or-lt}
 use Rattle.segmentation.specs.declared.VolumeSegment.{VolumeSegment}
-use Rattle.segmentation.specs.declared.End.TheVariants.{None}
 use Rattle.segmentation.specs.Capacity.{cap_of}
 use Rattle.segmentation.specs.End.{Reach, by, never, or_else, reach_of, round_of, by_deadline, end_given}
 

@@ -1,4 +1,6 @@
 -- The end found segment by segment, as the code does it.
+use Rattle.std.specs.Prelude.{Option, None}
+use Rattle.units.specs.declared.Date.{Date}
 use Prim.Native.Nat.{ℕ, ◌+◌, ◌-◌, ◌*◌, ◌<◌, ◌≤◌}
 use mathlib.Core.Path.{◌≡◌, refl}
 use mathlib.Core.List.{List, [], ◌∷◌}
@@ -6,8 +8,6 @@ use lib.Dec.{leb}
 use borrow.Author.Tests.{le-leb, lt-leb}
 use Rattle.units.specs.Logic.{pick}
 use Rattle.segmentation.specs.declared.VolumeSegment.{VolumeSegment}
-use Rattle.segmentation.specs.declared.End.{End}
-use Rattle.segmentation.specs.declared.End.TheVariants.{None}
 use Rattle.segmentation.specs.Granted.{ticks_of}
 use Rattle.segmentation.specs.Capacity.{rate_of}
 use Rattle.segmentation.specs.End.{by_deadline}
@@ -16,7 +16,7 @@ use Rattle.segmentation.specs.End.{by_deadline}
 abbrev pub carried_of : VolumeSegment → ℕ → ℕ
 carried_of s a = rate_of s * (s.end.0 - a)
 
-unfoldable pub seg_end : ℕ → List VolumeSegment → ℕ → ℕ → ℕ → End
+unfoldable pub seg_end : ℕ → List VolumeSegment → ℕ → ℕ → ℕ → (Option Date)
 seg_end k [] a v d = None
 seg_end k (s ∷ l) a v d =
     pick (leb a s.end.0)

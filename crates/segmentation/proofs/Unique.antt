@@ -1,9 +1,9 @@
 -- Each public call's promise determines its answer: two answers that meet it are equal. `Post` is the reading of the contract in src/.
-use Prim.Native.Nat.{ℕ, ◌≤◌}
-use mathlib.Core.Path.{◌≡◌, sym, ap, ◌∙◌}
+use Prim.Native.Nat.{ℕ}
+use mathlib.Core.Path.{◌≡◌, sym, ◌∙◌}
 use mathlib.Core.List.{List}
-use native.Mathlib.Omega.{arith}
-use lib.ListN.{length, take, length-take, length-drop}
+use Rattle.std.proofs.Common.{Bor, Option}
+use contract.Lifetimes.{Lfts}
 use Rattle.units.specs.declared.Date.{Date}
 use Rattle.units.specs.declared.Volume.{Volume}
 use Rattle.units.specs.declared.Interval.{Interval}
@@ -14,7 +14,6 @@ use Rattle.segmentation.specs.declared.Rule.{Rule}
 use Rattle.segmentation.specs.declared.VolumeSegment.{VolumeSegment}
 use Rattle.segmentation.specs.declared.DelaySegment.{DelaySegment}
 use Rattle.segmentation.specs.declared.Delays.{Delays}
-use Rattle.segmentation.specs.Granted.{Placed}
 use Rattle.segmentation.proofs.VolumeSegment.carried.Reads as carried-reads
 use Rattle.segmentation.proofs.VolumeSegment.sent.Reads as sent-reads
 use Rattle.segmentation.proofs.VolumeSegment.part.Reads as part-reads
@@ -23,7 +22,7 @@ use Rattle.segmentation.proofs.find_end.Reads as find-end-reads
 use Rattle.segmentation.proofs.volume_between.Reads as volume-between-reads
 use Rattle.segmentation.proofs.Rule.belongs.Reads as belongs-reads
 use Rattle.segmentation.proofs.Rule.onward.Reads as onward-reads
-use Rattle.segmentation.proofs.delay_place.Reads as delay-place-reads
+use Rattle.segmentation.proofs.from_date.Reads as from-date-reads
 use Rattle.segmentation.proofs.find_delays.Reads as find-delays-reads
 use Rattle.segmentation.proofs.answer.Reads as answer-reads
 
@@ -40,32 +39,26 @@ module _ (self : VolumeSegment) (from : Date) where
 pub by-deadline-unique : (end deadline : Date) → Determined (by-deadline-reads.Post tt (end, (deadline, tt)))
 by-deadline-unique end deadline r q x y f g = f ∙ sym g
 
-module _ (rates : List VolumeSegment) (count : ℕ) (start : Date) where
-  pub find-end-unique : (edition : Edition) (size : Volume) (deadline : Date) → Determined (find-end-reads.Post tt (edition, (rates, (count, (start, (size, (deadline, tt)))))))
+module _ (lf : Lfts 1) (rates : Bor (List VolumeSegment)) (start : Date) where
+  pub find-end-unique : (edition : Edition) (size : Volume) (deadline : Date) → Determined (find-end-reads.Post lf (edition, (rates, (start, (size, (deadline, tt))))))
   find-end-unique edition size deadline r q x y f g = f ∙ sym g
 
-  pub volume-between-unique : (end : Date) → Determined (volume-between-reads.Post tt (rates, (count, (start, (end, tt)))))
+  pub volume-between-unique : (end : Date) → Determined (volume-between-reads.Post lf (rates, (start, (end, tt))))
   volume-between-unique end r q x y f g = volume-is r q _ f g
 
 pub belongs-unique : (rule : Rule) (date : Date) (s : DelaySegment) (after : ℕ) → Determined (belongs-reads.Post tt (rule, (date, (s, (after, tt)))))
 belongs-unique rule date s after r q x y f g = f ∙ sym g
 
-pub onward-unique : (rule : Rule) (place : ℕ) → Determined (onward-reads.Post tt (rule, (place, tt)))
-onward-unique rule place r q x y f g = f ∙ sym g
+-- what is lent back is told by the segments in it
+module _ (lf : Lfts 1) (rule : Rule) (delays : Bor (List DelaySegment)) where
+  pub onward-unique : (found r q : Bor (List DelaySegment)) (x y : _) → onward-reads.Post lf (rule, (delays, (found, tt))) r x → onward-reads.Post lf (rule, (delays, (found, tt))) q y → r.now ≡ q.now
+  onward-unique found r q x y f g = f ∙ sym g
 
--- a place is told by what is left of the list there
-placed-unique : (rule : ℕ) (l : List DelaySegment) (n from t r q : ℕ) → length l ≡ n → Placed rule l n from t r → Placed rule l n from t q → r ≡ q
-placed-unique rule l n from t r q len h k =
-    let same = simp length-drop at (ap length (h.is ∙ sym k.is)) in
-    omega (arith, same, h.low, k.low)
+  pub from-date-unique : (date : Date) (r q : Bor (List DelaySegment)) (x y : _) → from-date-reads.Post lf (rule, (delays, (date, tt))) r x → from-date-reads.Post lf (rule, (delays, (date, tt))) q y → r.now ≡ q.now
+  from-date-unique date r q x y f g = f ∙ sym g
 
-module _ (rule : Rule) (delays : List DelaySegment) (count : ℕ) where
-  pub delay-place-unique : (from : ℕ) (date : Date) → count ≤ length delays → Determined (delay-place-reads.Post tt (rule, (delays, (count, (from, (date, tt))))))
-  delay-place-unique from date le r q x y f g =
-      placed-unique rule.0 (take count delays) count from date.0 r q (simp length-take (omega arith)) f g
-
-  pub find-delays-unique : (send : Interval) → Determined (find-delays-reads.Post tt (rule, (delays, (count, (send, tt)))))
+  pub find-delays-unique : (send : Interval) → Determined (find-delays-reads.Post lf (rule, (delays, (send, tt))))
   find-delays-unique send r q x y f g = f ∙ sym g
 
-pub answer-unique : (send : Interval) (delays : Delays) → Determined (answer-reads.Post tt (send, (delays, tt)))
+pub answer-unique : (send : Interval) (delays : Option Delays) → Determined (answer-reads.Post tt (send, (delays, tt)))
 answer-unique send delays r q x y f g = f ∙ sym g

@@ -1,9 +1,8 @@
 -- 01, "Rounding and lookup", End, in its exact terms (edition 1), and 02's R-5 (edition 2).
-use Rattle.std.specs.Prelude.{ℕ, zero, suc, ◌+◌, ◌-◌, List, [], ◌∷◌, leb, eqb}
+use Rattle.std.specs.Prelude.{ℕ, zero, suc, ◌+◌, ◌-◌, List, [], ◌∷◌, leb, eqb, Option, Some, None}
 use Rattle.units.specs.Logic.{pick}
 use Rattle.segmentation.specs.declared.VolumeSegment.{VolumeSegment}
-use Rattle.segmentation.specs.declared.End.{End}
-use Rattle.segmentation.specs.declared.End.TheVariants.{At, None}
+use Rattle.units.specs.declared.Date.{Date}
 use Rattle.segmentation.specs.Capacity.{cap_of, capacity}
 
 -- the tick by which the capacity reaches the size, if there is one
@@ -30,13 +29,13 @@ abbrev pub round_of : ℕ → ℕ → ℕ → ℕ → ℕ
 round_of edition c v u = pick (eqb edition 2) u (pick (eqb c v) u (u - 1))
 
 -- accepted if not after the deadline
-abbrev pub by_deadline : ℕ → ℕ → End
-by_deadline d e = pick (leb e d) (At (record { 0 = e })) None
+abbrev pub by_deadline : ℕ → ℕ → (Option Date)
+by_deadline d e = pick (leb e d) (Some (record { 0 = e })) None
 
-abbrev pub end_given : ℕ → List VolumeSegment → ℕ → ℕ → ℕ → Reach → End
+abbrev pub end_given : ℕ → List VolumeSegment → ℕ → ℕ → ℕ → Reach → (Option Date)
 end_given edition l a v d (by u) = by_deadline d (round_of edition (capacity l a u) v u)
 end_given edition l a v d never = None
 
 -- the end of a send of size v from a on, by the deadline d; none where no tick of the window is u
-unfoldable pub end_of : ℕ → List VolumeSegment → ℕ → ℕ → ℕ → End
+unfoldable pub end_of : ℕ → List VolumeSegment → ℕ → ℕ → ℕ → (Option Date)
 end_of edition l a v d = end_given edition l a v d (reach_of l a v (close_of a l - a))

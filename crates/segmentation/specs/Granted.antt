@@ -1,13 +1,11 @@
 -- What the rules take for granted of their segments: a record's test shows it before they are called. No promise rests on it.
-use Rattle.std.specs.Prelude.{ℕ, ◌+◌, ◌-◌, ◌*◌, ◌/◌, ◌<◌, ◌≤◌, ◌≡◌, List, [], ◌∷◌, eqb, drop}
+use Rattle.std.specs.Prelude.{ℕ, ◌+◌, ◌-◌, ◌*◌, ◌/◌, ◌<◌, ◌≤◌, ◌≡◌, List, [], ◌∷◌, eqb, Option, Some, None}
 use Rattle.units.specs.Limits.{date_max, length_max, volume_max, delay_max}
 use Rattle.units.specs.Logic.{pick}
 use Rattle.segmentation.specs.declared.VolumeSegment.{VolumeSegment}
 use Rattle.segmentation.specs.declared.DelaySegment.{DelaySegment}
 use Rattle.segmentation.specs.declared.Delays.{Delays}
-use Rattle.segmentation.specs.declared.Delays.TheVariants.{Of, None}
 use Rattle.segmentation.specs.Capacity.{rate_of}
-use Rattle.segmentation.specs.Delay.{from_date}
 
 -- the segment is not empty, is within the limits, and holds its rate times its length
 pub record SegOk (s : VolumeSegment) : Type 0 where
@@ -38,8 +36,8 @@ abbrev pub ticks_of : ℕ → ℕ → ℕ → ℕ
 ticks_of edition v r = pick (eqb edition 2) ((v - 1) / r + 1) (v / r)
 
 -- delays within their limits
-abbrev pub Short : Delays → Type 0
-Short (Of a b) = (a.0 ≤ delay_max) × (b.0 ≤ delay_max)
+abbrev pub Short : Option Delays → Type 0
+Short (Some d) = (d.first.0 ≤ delay_max) × (d.last.0 ≤ delay_max)
 Short None = Unit
 
 -- each delay is within its limit
@@ -47,11 +45,6 @@ unfoldable pub AllShort : List DelaySegment → Type 0
 AllShort [] = Unit
 AllShort (d ∷ l) = (d.delay.0 ≤ delay_max) × (AllShort l)
 
--- what a lookup from a place on finds, as a place (`delay_place`)
-pub record Placed (rule : ℕ) (l : List DelaySegment) (count from t r : ℕ) : Type 0 where
-  pub low : r ≤ count
-  pub is : drop r l ≡ from_date rule (drop from l) t
-
--- the place from which the end's lookup starts, where the start's found this one
-abbrev pub onward_of : ℕ → ℕ → ℕ
-onward_of rule i = pick (eqb rule 2) 0 i
+-- the segments among which the end's lookup goes on, of all and those that the start's found
+abbrev pub onward_of : ℕ → List DelaySegment → List DelaySegment → List DelaySegment
+onward_of rule l first = pick (eqb rule 2) l first

@@ -3,3 +3,4 @@ pub mod End
 pub mod Delay
 pub mod Granted
 pub mod EndIs
+pub mod Blank

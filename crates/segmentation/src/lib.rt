@@ -6,14 +6,17 @@ ghost use Rattle.units.specs.Limits.{date_max, volume_max, segments_max};
 ghost use Rattle.units.specs.Logic.{pick};
 ghost use Rattle.segmentation.specs.Capacity.{rate_of, capacity};
 ghost use Rattle.segmentation.specs.End.{by_deadline, end_of};
-ghost use Rattle.segmentation.specs.Delay.{belongs, delays_of, answer_of};
-ghost use Rattle.segmentation.specs.Granted.{SegOk, Covers, Runs, Short, Placed, onward_of, ticks_of};
+ghost use Rattle.segmentation.specs.Delay.{belongs, from_date, delays_of, answer_of};
+ghost use Rattle.segmentation.specs.Blank.{no_volume, no_delay};
+ghost use Rattle.segmentation.specs.Granted.{SegOk, Covers, Runs, Short, onward_of, ticks_of};
 
+use units::blank::Place;
+use units::refusal::Refusal;
 use units::{Date, Delay, Interval, Offer, Rate, TxData, Volume};
 
-// The edition of the end rule: 1 is the source's, 2 ends a send when its final unit has left.
+// The edition of the end rule: 1 is the source's, 2 ends a send when its final unit has left. A number and no enum, as `Rule` and poly's `Mode`: the C interface has the choices so, and each may be any number, which `choices_ok` tests.
 #[repr(C)]
-#[derive(Clone, Copy)]
+#[derive(Clone, Copy, PartialEq, Eq, Default)]
 pub struct Edition(pub u64);
 
 impl Edition {
@@ -25,16 +28,13 @@ impl Edition {
     fn part(self) -> u64
         ensures { result ≡ pick (eqb self.0 2) 1 0 }
     {
-        if self.0 == Edition::SECOND {
-            return 1;
-        }
-        0
+        if self.0 == Edition::SECOND { 1 } else { 0 }
     }
 }
 
 // The rule of the delay lookup: 1 is the source's, in 2 a boundary belongs to what follows.
 #[repr(C)]
-#[derive(Clone, Copy)]
+#[derive(Clone, Copy, PartialEq, Eq, Default)]
 pub struct Rule(pub u64);
 
 impl Rule {
@@ -43,38 +43,32 @@ impl Rule {
     pub const SECOND: u64 = 2;
 
     // Does the date belong to the segment that has so many after it?
+    #[tactic(auto, unfolding(crate::specs::Delay::belongs, units::specs::Logic::both))]
     pub fn belongs(self, date: Date, s: DelaySegment, after: usize) -> bool
         ensures { result ≡ belongs self.0 date.0 s after }
     {
-        if s.end.0 < date.0 {
-            return false;
-        }
         if self.0 != Rule::SECOND {
-            return true;
+            return date <= s.end;
         }
-        if date.0 < s.start.0 {
-            return false;
-        }
-        if date.0 < s.end.0 {
-            return true;
-        }
-        after == 0
+        s.start <= date && (date < s.end || after == 0 && date == s.end)
     }
 
-    // Where the end's lookup starts: by rule 1 at the place that the start's found.
-    pub fn onward(self, place: usize) -> usize
-        ensures { result ≡ onward_of self.0 place }
+    // Where the end's lookup goes on: by rule 1 from what the start's found.
+    pub fn onward<'a>(
+        self,
+        all: &'a [DelaySegment],
+        found: &'a [DelaySegment],
+    ) -> &'a [DelaySegment]
+        ensures { result.now ≡ onward_of self.0 all.now found.now }
     {
-        if self.0 == Rule::SECOND {
-            return 0;
-        }
-        place
+        if self.0 == Rule::SECOND { all } else { found }
     }
 }
 
+// Three types of segments, bookings has a fourth, and no `Segment<T>`: C's records, and the definitions of specs/ name each with its own field.
 // Segment<DataRate>: what an opening is given.
 #[repr(C)]
-#[derive(Clone, Copy)]
+#[derive(Clone, Copy, PartialEq, Eq, Default)]
 pub struct RateSegment {
     pub start: Date,
     pub end: Date,
@@ -83,7 +77,7 @@ pub struct RateSegment {
 
 // Segment<Volume>: a rate times its length, or a listed stretch of free time with its volume.
 #[repr(C)]
-#[derive(Clone, Copy)]
+#[derive(Clone, Copy, PartialEq, Eq, Default)]
 pub struct VolumeSegment {
     pub start: Date,
     pub end: Date,
@@ -92,24 +86,18 @@ pub struct VolumeSegment {
 
 // Segment<Duration>
 #[repr(C)]
-#[derive(Clone, Copy)]
+#[derive(Clone, Copy, PartialEq, Eq, Default)]
 pub struct DelaySegment {
     pub start: Date,
     pub end: Date,
     pub delay: Delay,
 }
 
-#[derive(Clone, Copy)]
-pub enum End {
-    At(Date),
-    None,
-}
-
 // The delays at the start and at the end of a send interval.
-#[derive(Clone, Copy)]
-pub enum Delays {
-    Of(Delay, Delay),
-    None,
+#[derive(Clone, Copy, PartialEq, Eq, Default)]
+pub struct Delays {
+    pub first: Delay,
+    pub last: Delay,
 }
 
 impl RateSegment {
@@ -118,6 +106,24 @@ impl RateSegment {
 
 impl DelaySegment {
     pub const COUNT_MAX: usize = Interval::SEGMENTS_MAX;
+}
+
+impl Place for VolumeSegment {
+    ghost blank = { no_volume };
+
+    #[tactic(auto, unfolding(crate::specs::Blank::no_volume, units::specs::Logic::both))]
+    fn is_blank(self) -> bool {
+        self == VolumeSegment::default()
+    }
+}
+
+impl Place for DelaySegment {
+    ghost blank = { no_delay };
+
+    #[tactic(auto, unfolding(crate::specs::Blank::no_delay, units::specs::Logic::both))]
+    fn is_blank(self) -> bool {
+        self == DelaySegment::default()
+    }
 }
 
 impl VolumeSegment {
@@ -131,8 +137,8 @@ impl VolumeSegment {
 
     // From dates to a volume: what the segment still carries from the date on, its volume less what is past.
     pub fn carried(self, from: Date) -> Volume
-        requires fact_1 { SegOk self }
-        requires fact_2 { (self.start.0 ≤ from.0) × (from.0 ≤ self.end.0) }
+        requires whole { SegOk self }
+        requires inside { (self.start.0 ≤ from.0) × (from.0 ≤ self.end.0) }
         ensures { result.0 ≡ rate_of self * (self.end.0 - from.0) }
     {
         let rate = self.rate();
@@ -141,8 +147,8 @@ impl VolumeSegment {
 
     // From a volume to a date: when the rest is sent that starts at the date and that the segment covers, rounded down in edition 1 and up in edition 2: one division for both.
     pub fn sent(self, edition: Edition, from: Date, rest: Volume) -> Date
-        requires fact_1 { SegOk self }
-        requires fact_2 { (from.0 ≤ self.end.0) × ((0 < rest.0) × (rest.0 ≤ self.volume.0)) }
+        requires whole { SegOk self }
+        requires carried { (from.0 ≤ self.end.0) × ((0 < rest.0) × (rest.0 ≤ self.volume.0)) }
         ensures { result.0 ≡ from.0 + ticks_of edition.0 rest.0 (rate_of self) }
     {
         let rate = self.rate();
@@ -153,12 +159,12 @@ impl VolumeSegment {
     // What the segment carries between two dates.
     pub fn part(self, start: Date, end: Date) -> Volume
         requires { SegOk self }
-        ensures fact_1 { result.0 ≡ capacity (self ∷ []) start.0 end.0 }
-        ensures fact_2 { result.0 ≤ volume_max }
+        ensures is { result.0 ≡ capacity (self ∷ []) start.0 end.0 }
+        ensures small { result.0 ≤ volume_max }
     {
         let lo = units::later(start, self.start);
         let hi = units::sooner(end, self.end);
-        if hi.0 <= lo.0 {
+        if hi <= lo {
             return Volume(0);
         }
         let rate = self.rate();
@@ -167,145 +173,95 @@ impl VolumeSegment {
 }
 
 // An end, if it is not after the deadline.
-pub fn by_deadline(end: Date, deadline: Date) -> End
+pub fn by_deadline(end: Date, deadline: Date) -> Option<Date>
     ensures { result ≡ by_deadline deadline.0 end.0 }
 {
-    if end.0 <= deadline.0 {
-        End::At(end)
-    } else {
-        End::None
-    }
+    if end <= deadline { Some(end) } else { None }
 }
 
 // get_tx_end: the end of a send of this size from this start, by the deadline, or none.
 pub fn find_end(
     edition: Edition,
-    rates: [VolumeSegment; RateSegment::COUNT_MAX],
-    count: usize,
+    rates: &[VolumeSegment],
     start: Date,
     size: Volume,
     deadline: Date,
-) -> End
-    requires fact_1 { count ≤ segments_max }
-    requires fact_2 { 0 < size.0 }
-    requires fact_3 { Covers start.0 (take count rates) }
-    ensures { result ≡ end_of edition.0 (take count rates) start.0 size.0 deadline.0 }
+) -> Option<Date>
+    requires sized { 0 < size.0 }
+    requires covered { Covers start.0 rates.now }
+    ensures { result ≡ end_of edition.0 rates.now start.0 size.0 deadline.0 }
 {
-    let mut i: usize = 0;
     let mut at = start;
     let mut rest = size;
-    loop {
-        if count <= i {
-            break End::None;
-        }
-        let s = rates[i];
-        if at.0 <= s.end.0 {
-            let here = s.carried(at);
-            if rest.0 <= here.0 {
-                break by_deadline(s.sent(edition, at, rest), deadline);
+    'search: {
+        for s in rates {
+            if at <= s.end {
+                let here = s.carried(at);
+                if rest <= here {
+                    break 'search by_deadline(s.sent(edition, at, rest), deadline);
+                }
+                rest = Volume(rest.0 - here.0);
+                at = s.end;
             }
-            rest = Volume(rest.0 - here.0);
-            at = s.end;
         }
-        i += 1;
+        None
     }
 }
 
-// get_volume: the exact capacity between two dates.
-pub fn volume_between(
-    rates: [VolumeSegment; RateSegment::COUNT_MAX],
-    count: usize,
-    start: Date,
-    end: Date,
-) -> Volume
-    requires fact_1 { count ≤ segments_max }
-    requires fact_2 { Runs (take count rates) }
-    ensures { result.0 ≡ capacity (take count rates) start.0 end.0 }
+// get_volume: the exact capacity between two dates. `few` and `in_turn` stay clauses, here and in free_list: a type with them would be made at each call.
+pub fn volume_between(rates: &[VolumeSegment], start: Date, end: Date) -> Volume
+    requires few { length rates.now ≤ segments_max }
+    requires in_turn { Runs rates.now }
+    ensures { result.0 ≡ capacity rates.now start.0 end.0 }
 {
-    let mut i: usize = 0;
-    let mut sum = Volume(0);
-    loop {
-        if count <= i {
-            break sum;
-        }
-        let s = rates[i];
-        let more = s.part(start, end);
-        sum = Volume(sum.0 + more.0);
-        i += 1;
+    let mut sum = 0;
+    for s in rates {
+        sum += s.part(start, end).0;
     }
+    Volume(sum)
 }
 
-// The place of the first delay segment, from a place on, that the date belongs to; the count, where there is none.
-pub fn delay_place(
-    rule: Rule,
-    delays: [DelaySegment; DelaySegment::COUNT_MAX],
-    count: usize,
-    from: usize,
-    date: Date,
-) -> usize
-    requires fact_1 { count ≤ segments_max }
-    requires fact_2 { from ≤ count }
-    ensures { Placed rule.0 (take count delays) count from date.0 result }
+// The segments from the first on that the date belongs to.
+pub fn from_date(rule: Rule, delays: &[DelaySegment], date: Date) -> &[DelaySegment]
+    ensures { result.now ≡ from_date rule.0 delays.now date.0 }
 {
-    let mut i = from;
-    loop {
-        if count <= i {
-            break count;
+    let count = delays.len();
+    for (i, s) in delays.iter().enumerate() {
+        if rule.belongs(date, *s, count - i - 1) {
+            return &delays[i..];
         }
-        let s = delays[i];
-        if rule.belongs(date, s, count - i - 1) {
-            break i;
-        }
-        i += 1;
     }
+    &delays[count..]
 }
 
 // get_delays: the delays at both ends of a send interval, by the rule.
-pub fn find_delays(
-    rule: Rule,
-    delays: [DelaySegment; DelaySegment::COUNT_MAX],
-    count: usize,
-    send: Interval,
-) -> Delays
-    requires { count ≤ segments_max }
-    ensures { result ≡ delays_of rule.0 (take count delays) send.start.0 send.end.0 }
+#[tactic(auto, unfolding(crate::specs::Delay::delays_of))]
+pub fn find_delays(rule: Rule, delays: &[DelaySegment], send: Interval) -> Option<Delays>
+    ensures { result ≡ delays_of rule.0 delays.now send.start.0 send.end.0 }
 {
-    let start = send.start;
-    let end = send.end;
-    let i = delay_place(rule, delays, count, 0, start);
-    if count <= i {
-        return Delays::None;
-    }
-    let j = delay_place(rule, delays, count, rule.onward(i), end);
-    if count <= j {
-        return Delays::None;
-    }
-    let a = delays[i];
-    let b = delays[j];
-    let first = a.delay;
-    let last = b.delay;
-    Delays::Of(first, last)
+    let first = from_date(rule, delays, send.start);
+    let last = from_date(rule, rule.onward(delays, first), send.end);
+    Some(Delays {
+        first: first.first()?.delay,
+        last: last.first()?.delay,
+    })
 }
 
 // The answer to a dry run that found this send interval.
-pub fn answer(send: Interval, delays: Delays) -> Offer
-    requires fact_1 { (send.start.0 ≤ date_max) × (send.end.0 ≤ date_max) }
-    requires fact_2 { Short delays }
+pub fn answer(send: Interval, delays: Option<Delays>) -> Offer
+    requires dated { (send.start.0 ≤ date_max) × (send.end.0 ≤ date_max) }
+    requires short { Short delays }
     ensures { result ≡ answer_of send.start.0 send.end.0 delays }
 {
-    let start = send.start;
-    let end = send.end;
-    let Delays::Of(a, b) = delays else {
-        return Offer::refused(units::refusal::NO_DELAY);
+    let Some(found) = delays else {
+        return Offer::refused(Refusal::NoDelay.number());
+    };
+    let recv = Interval {
+        start: send.start.after(found.first),
+        end: send.end.after(found.last),
     };
     Offer {
         number: 0,
-        dates: TxData {
-            send: send,
-            recv: Interval {
-                start: start.after(a),
-                end: end.after(b),
-            },
-        },
+        dates: TxData { send, recv },
     }
 }

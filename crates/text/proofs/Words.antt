@@ -1,24 +1,21 @@
--- The digits of a value, the text of n bytes by its parts, and how long texts are.
-use Prim.Native.Nat.{ℕ, zero, suc, ◌+◌, ◌*◌, ◌/◌, ◌%◌, ◌^◌, ◌<◌, ◌≤◌}
-use mathlib.Core.Path.{◌≡◌, refl, sym, ap, ◌∙◌}
-use mathlib.Core.List.{◌++◌, append_assoc, append-nil}
-use native.Mathlib.Nat.{zero-add, suc-add, mul_comm, div-one, div-div-eq-div-mul}
+-- How long texts are, and the text of a number as that of its bytes.
+use Prim.Native.Nat.{ℕ, zero, suc, ◌*◌, ◌/◌, ◌%◌, ◌^◌, ◌<◌}
+use mathlib.Core.Path.{◌≡◌, refl, ap}
+use mathlib.Core.List.{List, [], ◌∷◌, ◌++◌}
+use native.Mathlib.Nat.{div-one}
 use native.Mathlib.Omega.{arith}
-use borrow.Author.Tests.{lt-ltb, le-ltb}
-use lib.Pow.{pow-add}
-use lib.ListN.{length, length-append}
+use lib.ListN.{length, get_or, length-append}
 use Rattle.units.specs.declared.Interval.{Interval}
 use Rattle.units.specs.declared.TxData.{TxData}
-use Rattle.text.specs.Text.{digit_of, byte_text, word_text, interval_text, dates_text}
+use Rattle.std.specs.Int.{bytes_high_first}
+use Rattle.std.proofs.lemmas.List.FromFn.{get_or-map-range_with_len}
+use Rattle.text.specs.Text.{digit_of, byte_text, word_text, interval_text, dates_text, list_text}
 
-module _ (v : ℕ) where
-  pub digit-decimal : v < 10 → digit_of v ≡ 48 + v
-  unfolding digit_of
-  digit-decimal h = rw (lt-ltb v 10 h)
-
-  pub digit-letter : 10 ≤ v → digit_of v ≡ 87 + v
-  unfolding digit_of
-  digit-letter h = rw (le-ltb v 10 h)
+-- the digits in a row
+pub digit_at : (v i : ℕ) → v < 16 → i ≡ v
+    → get_or (48 ∷ 49 ∷ 50 ∷ 51 ∷ 52 ∷ 53 ∷ 54 ∷ 55 ∷ 56 ∷ 57 ∷ 97 ∷ 98 ∷ 99 ∷ 100 ∷ 101 ∷ 102 ∷ []) i 0 ≡ digit_of v
+unfolding digit_of
+digit_at v i h e = get_or-map-range_with_len digit_of 0 16 i v 0 (omega arith) (omega arith)
 
 pub byte-length : (b : ℕ) → length (byte_text b) ≡ 2
 unfolding byte_text
@@ -37,18 +34,9 @@ pub dates-length : (d : TxData) → length (dates_text d) ≡ 64
 unfolding dates_text
 dates-length d = simp (length-append, interval-length)
 
-shift : (x m n : ℕ) → x / 256 ^ (m + n) ≡ x / 256 ^ n / 256 ^ m
-shift x m n = ap (λ (k : ℕ). x / k) (pow-add 256 m n ∙ mul_comm (256 ^ m) (256 ^ n)) ∙ sym (div-div-eq-div-mul x (256 ^ n) (256 ^ m))
-
--- the high bytes, then the low ones
-pub word-append : (m n x : ℕ) → word_text (m + n) x ≡ word_text m (x / 256 ^ n) ++ word_text n x
-unfolding word_text
-word-append zero n x = rw zero-add
-word-append (suc m) n x = rw (suc-add m n, shift x m n, word-append m n x, append_assoc)
-
-pub word_byte : (x : ℕ) → word_text 1 x ≡ byte_text (x % 256)
-unfolding word_text
-word_byte x = rw (append-nil, div-one)
-
-pub pair-bytes : (x : ℕ) → byte_text (x / 256 % 256) ++ byte_text (x % 256) ≡ word_text 2 x
-pair-bytes x = sym (word-append 1 1 x ∙ rw (word_byte x, word_byte (x / 256)))
+-- the bytes of a number, the highest of them first
+pub word_list : (n x : ℕ) → list_text byte_text (bytes_high_first n x) ≡ word_text n x
+unfolding list_text word_text
+word_list zero x = refl
+word_list (suc zero) x = rw div-one
+word_list (suc (suc n)) x = ap (λ (l : List ℕ). byte_text (x / 256 ^ suc n % 256) ++ l) (word_list (suc n) x)

@@ -4,10 +4,11 @@ use mathlib.Core.Bool.{Bool, true, false}
 use mathlib.Core.Path.{◌≡◌, ap, ◌∙◌}
 use mathlib.Core.List.{List, [], ◌∷◌}
 use native.Mathlib.Omega.{arith}
-use lib.ListN.{length, take, drop, get_or}
+use lib.ListN.{length, take, drop, get_or, drop_of_length-le}
 use lib.Seq.{length-take-le, get_or-take}
-use Rattle.units.specs.Logic.{all_of}
-use Rattle.units.proofs.Logic.{all_go, all_none, all_head, all_tail, same_test}
+use Rattle.units.specs.Logic.{both, all_of}
+use Rattle.units.proofs.Loop.{item_here}
+use Rattle.units.proofs.Logic.{both_go, both-stop, all_go, all_none, all_head, all_tail, same_test}
 use Rattle.units.proofs.Places.{place-holds}
 use Rattle.units.proofs.Unused.{Rest, rest-first, rest_end, rest-stop, rest-step}
 
@@ -58,3 +59,20 @@ module _ {A : Type 0} (p : A → Bool) where
   all_drop zero l e = e
   all_drop (suc n) [] e = all_none p
   all_drop (suc n) (a ∷ l) e = all_drop n l (all_tail p a l e)
+
+-- A `for` that stops at the first element where the test fails: what is left of the list answers as the whole.
+module _ {A : Type 0} (p : A → Bool) (l : List A) (i : ℕ) (q : all_of p l ≡ all_of p (drop i l)) where
+  pub all-end : length l ≤ i → all_of p l ≡ true
+  unfolding all_of
+  all-end h = q ∙ ap (all_of p) (drop_of_length-le l h)
+
+  module _ (a : A) (lt : i < length l) (e : a ≡ get_or l i a) where
+    all-here : all_of p l ≡ both (p a) (all_of p (drop (i + 1) l))
+    unfolding all_of
+    all-here = q ∙ ap (all_of p) (item_here l i a lt e)
+
+    pub all-fails : p a ≡ false → all_of p l ≡ false
+    all-fails h = all-here ∙ both-stop _ _ h
+
+    pub all-on : p a ≡ true → all_of p l ≡ all_of p (drop (i + 1) l)
+    all-on h = all-here ∙ both_go _ _ h

@@ -20,3 +20,5 @@ pub mod Logged
 pub mod Tables
 pub mod Unique
 pub mod Order
+pub mod Refusals
+pub mod Compare

@@ -1,6 +1,6 @@
 -- A loop over the first n places of an array: what is left of the list has the answer that is asked.
 use Prim.Native.Nat.{ℕ, ◌+◌, ◌<◌, ◌≤◌}
-use mathlib.Core.Path.{◌≡◌, refl, ap, ◌∙◌}
+use mathlib.Core.Path.{◌≡◌, refl, sym, ap, ◌∙◌}
 use mathlib.Core.List.{List, [], ◌∷◌}
 use native.Mathlib.Numerals.{add-one}
 use native.Mathlib.Omega.{arith}
@@ -17,6 +17,10 @@ at_place l n i z h k =
 -- the same of a whole list
 pub at-whole : {A : Type 0} (l : List A) (i : ℕ) (z : A) → i < length l → drop i l ≡ get_or l i z ∷ drop (i + 1) l
 at-whole l i z h = rw (add-one, drop-cons l i z)
+
+-- the item of a `for` over a list, and those after it
+pub item_here : {A : Type 0} (l : List A) (i : ℕ) (a : A) → i < length l → a ≡ get_or l i a → drop i l ≡ a ∷ drop (i + 1) l
+item_here {A = A} l i a h e = at-whole l i a h ∙ ap (λ (x : A). x ∷ drop (i + 1) l) (sym e)
 
 -- F computes the answer from a state and a list; the loop stands at place i with state s
 pub record Left {S A R : Type 0} (F : S → List A → R) (l : List A) (n : ℕ) (s₀ : S) (i : ℕ) (s : S) : Type 0 where

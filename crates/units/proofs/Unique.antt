@@ -10,15 +10,18 @@ use Rattle.units.specs.declared.TxData.{TxData}
 use Rattle.units.specs.declared.Bundle.{Bundle}
 use Rattle.units.specs.declared.Offer.{Offer}
 use Rattle.units.proofs.Determined.{Determined}
+use Rattle.units.proofs.Refusals.{told-once}
+use Rattle.units.specs.declared.refusal.Refusal.{Refusal}
+use Rattle.units.proofs.refusal.Refusal.number.Reads as number-reads
+use Rattle.units.proofs.blank.unused.Reads as unused-reads
 use Rattle.units.proofs.Date.after.Reads as after-reads
 use Rattle.units.proofs.Interval.is_window.Reads as is-window-reads
 use Rattle.units.proofs.Strict.ok.Reads as strict-ok-reads
 use Rattle.units.proofs.Strict.forbids.Reads as forbids-reads
 use Rattle.units.proofs.Bundle.ok_at.Reads as ok-at-reads
 use Rattle.units.proofs.Bundle.ok.Reads as ok-reads
-use Rattle.units.proofs.TxData.same.Reads as same_Reads
 use Rattle.units.proofs.Offer.is.Reads as is-reads
-use Rattle.units.proofs.Offer.refusal.Reads as refusal-reads
+use Rattle.units.proofs.Offer.check.Reads as check-reads
 use Rattle.units.proofs.Offer.refused.Reads as refused-reads
 use Rattle.units.proofs.one_or_two.Reads as one-or-two-reads
 use Rattle.units.proofs.later.Reads as later-reads
@@ -62,14 +65,19 @@ module _ (b : Bundle) where
   ok-unique r q x y f g = f ∙ sym g
 
 module _ (d : TxData) where
-  pub same-unique : (own : TxData) → Determined (same_Reads.Post tt (own, (d, tt)))
-  same-unique own r q x y f g = f ∙ sym g
-
   pub is-unique : (o : Offer) → Determined (is-reads.Post tt (o, (d, tt)))
   is-unique o r q x y f g = f ∙ sym g
 
-  pub refusal-unique : (strict : Strict) (o : Offer) → Determined (refusal-reads.Post tt (o, (strict, (d, tt))))
-  refusal-unique strict o r q x y f g = f ∙ sym g
+  pub check-unique : (strict : Strict) (o : Offer) → Determined (check-reads.Post tt (o, (strict, (d, tt))))
+  check-unique strict o r q x y f g = told-once r q (f ∙ sym g)
 
 pub refused-unique : (number : ℕ) → Determined (refused-reads.Post tt (number, tt))
 refused-unique number r q x y f g = f ∙ sym g
+
+pub number-unique : (r : Refusal) → Determined (number-reads.Post tt (r, tt))
+number-unique refusal r q x y f g = f ∙ sym g
+
+-- the test of unused places, at whatever stands there
+pub unused-unique : (t : _) (laws : _) (copied : _) (g : _) (d : _) (cloned : _) (e : _) (lf : _) (places : _)
+    → Determined (unused-reads.Post t laws copied g d cloned e lf (places, tt))
+unused-unique t laws copied g d cloned e lf places r q x y f h = f ∙ sym h

@@ -9,3 +9,4 @@ pub mod Twin
 pub mod Granted
 pub mod Arrays
 pub mod Order
+pub mod Refusal

@@ -3,48 +3,52 @@
 
 ghost use Rattle.std.specs.Prelude.{◌≡◌, ◌+◌, ◌≤◌, min, max};
 ghost use Rattle.units.specs.Limits.{date_max, delay_max, bundle_ok, load_ok, one_or_two, window_ok};
-ghost use Rattle.units.specs.Answer.{refused, same_dates, offers};
+ghost use Rattle.units.specs.Answer.{refused, offers};
 ghost use Rattle.units.specs.Strict.{strict_ok, forbids};
 ghost use Rattle.units.specs.Granted.{refusal_of};
+ghost use Rattle.units.specs.Refusal.{told};
 
+pub mod blank;
 pub mod refusal;
 
+use refusal::Refusal;
+
 #[repr(C)]
-#[derive(Clone, Copy)]
+#[derive(Clone, Copy, PartialEq, Eq, PartialOrd, Ord, Default)]
 pub struct Date(pub u64);
 
 #[repr(C)]
-#[derive(Clone, Copy)]
+#[derive(Clone, Copy, PartialEq, Eq, PartialOrd, Ord, Default)]
 pub struct Volume(pub u64);
 
 #[repr(C)]
-#[derive(Clone, Copy)]
+#[derive(Clone, Copy, PartialEq, Eq, PartialOrd, Ord, Default)]
 pub struct Rate(pub u64);
 
 #[repr(C)]
-#[derive(Clone, Copy)]
+#[derive(Clone, Copy, PartialEq, Eq, PartialOrd, Ord, Default)]
 pub struct Delay(pub u64);
 
 #[repr(C)]
-#[derive(Clone, Copy)]
+#[derive(Clone, Copy, PartialEq, Eq, PartialOrd, Ord, Default)]
 pub struct Priority(pub u8);
 
 // types.rs: TimeInterval
 #[repr(C)]
-#[derive(Clone, Copy)]
+#[derive(Clone, Copy, PartialEq, Eq, Default)]
 pub struct Interval {
     pub start: Date,
     pub end: Date,
 }
 
-// 02, R-7: whether a record refuses to book sends of zero length.
+// 02, R-7: whether a record refuses to book sends of zero length. A number and no enum: the C interface has the choice so, and it may be any number, which `strict_ok` tests.
 #[repr(C)]
-#[derive(Clone, Copy)]
+#[derive(Clone, Copy, PartialEq, Eq, Default)]
 pub struct Strict(pub u64);
 
 // contact_manager/mod.rs: ContactManagerTxData
 #[repr(C)]
-#[derive(Clone, Copy)]
+#[derive(Clone, Copy, PartialEq, Eq, Default)]
 pub struct TxData {
     pub send: Interval,
     pub recv: Interval,
@@ -52,15 +56,15 @@ pub struct TxData {
 
 // bundle.rs: Bundle
 #[repr(C)]
-#[derive(Clone, Copy)]
+#[derive(Clone, Copy, PartialEq, Eq, Default)]
 pub struct Bundle {
     pub size: Volume,
     pub priority: Priority,
 }
 
-// What a dry run answers: 01's number, and the four dates, which are zero unless the number is.
+// What a dry run answers: 01's number, and the four dates, which are zero unless the number is. A number beside dates: the C interface; `refused`, `offers` and `refusal_of` say it so.
 #[repr(C)]
-#[derive(Clone, Copy)]
+#[derive(Clone, Copy, PartialEq, Eq, Default)]
 pub struct Offer {
     pub number: u8,
     pub dates: TxData,
@@ -103,18 +107,13 @@ impl Interval {
     pub const LISTED_MAX: usize = 64;
 
     // Is this a contact's window? (contact.rs: ContactInfo::try_init, with 01's limits)
+    #[tactic(auto, unfolding(crate::specs::Limits::window_ok, crate::specs::Logic::both))]
     pub fn is_window(self) -> bool
         ensures { result ≡ window_ok self }
     {
-        let a = self.start.0;
-        let b = self.end.0;
-        if b <= a {
-            return false;
-        }
-        if Date::MAX < b {
-            return false;
-        }
-        b - a <= Interval::LENGTH_MAX
+        self.start < self.end
+            && self.end.0 <= Date::MAX
+            && self.end.0 - self.start.0 <= Interval::LENGTH_MAX
     }
 }
 
@@ -124,6 +123,7 @@ impl Strict {
     pub const ON: u64 = 1;
 
     // Is it a flag that there is?
+    #[tactic(auto, unfolding(crate::specs::Strict::strict_ok))]
     pub fn ok(self) -> bool
         ensures { result ≡ strict_ok self.0 }
     {
@@ -131,128 +131,86 @@ impl Strict {
     }
 
     // Is a booking of this send interval refused?
+    #[tactic(auto, unfolding(crate::specs::Strict::forbids, crate::specs::Logic::both))]
     pub fn forbids(self, send: Interval) -> bool
         ensures { result ≡ forbids self.0 send }
     {
-        if self.0 != Strict::ON {
-            return false;
-        }
-        send.start.0 == send.end.0
+        self.0 == Strict::ON && send.start == send.end
     }
 }
 
 impl Bundle {
     // Are the asked time, the size and the priority inside their limits?
+    #[tactic(auto, unfolding(crate::specs::Limits::bundle_ok, crate::specs::Logic::both))]
     pub fn ok_at(self, at: Date) -> bool
         ensures { result ≡ bundle_ok at self }
     {
-        if Date::MAX < at.0 {
-            return false;
-        }
-        self.ok()
+        at.0 <= Date::MAX && self.ok()
     }
 
     // Are the size and the priority inside their limits?
+    #[tactic(auto, unfolding(crate::specs::Limits::load_ok, crate::specs::Logic::both))]
     pub fn ok(self) -> bool
         ensures { result ≡ load_ok self }
     {
-        let v = self.size.0;
-        let p = self.priority.0;
-        if v < 1 {
-            return false;
-        }
-        if Volume::MAX < v {
-            return false;
-        }
-        p <= Priority::MAX
-    }
-}
-
-impl TxData {
-    pub fn same(self, other: TxData) -> bool
-        ensures { result ≡ same_dates self other }
-    {
-        let s = self.send;
-        let t = other.send;
-        let u = self.recv;
-        let v = other.recv;
-        if s.start.0 != t.start.0 {
-            return false;
-        }
-        if s.end.0 != t.end.0 {
-            return false;
-        }
-        if u.start.0 != v.start.0 {
-            return false;
-        }
-        u.end.0 == v.end.0
+        (1..=Volume::MAX).contains(&self.size.0) && self.priority.0 <= Priority::MAX
     }
 }
 
 impl Offer {
     // Is this an offer with these four dates?
+    #[tactic(auto, unfolding(crate::specs::Answer::offers, crate::specs::Answer::same_dates, crate::specs::Logic::both))]
     pub fn is(self, dates: TxData) -> bool
         ensures { result ≡ offers self dates }
     {
-        let own = self.dates;
-        if self.number != 0 {
-            return false;
-        }
-        own.same(dates)
+        self.number == 0 && self.dates == dates
     }
 
-    // Why a booking with these dates is refused before anything is cut or queued, where this is what the dry run answers: 2, 9, then 17; 0 where it is not.
-    pub fn refusal(self, strict: Strict, dates: TxData) -> u8
-        ensures { result ≡ refusal_of strict.0 self dates }
+    // A booking with these dates before anything is cut or queued, where this is what the dry run answers: 2, 9, then 17.
+    #[tactic(auto, unfolding(crate::specs::Granted::refusal_of))]
+    pub fn check(self, strict: Strict, dates: TxData) -> Result<(), Refusal>
+        ensures { told result ≡ refusal_of strict.0 self dates }
     {
-        if self.number == refusal::BUNDLE {
-            return refusal::BUNDLE;
+        if self.number == Refusal::Bundle.number() {
+            return Err(Refusal::Bundle);
         }
         if !self.is(dates) {
-            return refusal::NOT_OFFERED;
+            return Err(Refusal::NotOffered);
         }
-        let send = dates.send;
-        if strict.forbids(send) {
-            return refusal::ZERO_LENGTH;
+        if strict.forbids(dates.send) {
+            return Err(Refusal::ZeroLength);
         }
-        0
+        Ok(())
     }
 
+    // Any number and no `Refusal`: that would ask more of callers (`refused-unique`; the trace program's ff).
     pub fn refused(number: u8) -> Offer
         ensures { result ≡ refused number }
     {
-        let none = Interval {
-            start: Date(0),
-            end: Date(0),
-        };
         Offer {
-            number: number,
-            dates: TxData {
-                send: none,
-                recv: none,
-            },
+            number,
+            dates: TxData::default(),
         }
     }
 }
 
 // Is it a choice that there is? 02's editions, rules and modes are 1 and 2.
+#[tactic(auto, unfolding(crate::specs::Limits::one_or_two, crate::specs::Logic::both))]
 pub fn one_or_two(choice: u64) -> bool
     ensures { result ≡ one_or_two choice }
 {
-    if choice < 1 {
-        return false;
-    }
-    choice <= 2
+    (1..=2).contains(&choice)
 }
 
+// `later` and `sooner` stay beside `max` and `min`: public functions, whose promises say the number.
 pub fn later(a: Date, b: Date) -> Date
     ensures { result.0 ≡ max a.0 b.0 }
 {
-    if a.0 <= b.0 { b } else { a }
+    a.max(b)
 }
 
 pub fn sooner(a: Date, b: Date) -> Date
     ensures { result.0 ≡ min a.0 b.0 }
 {
-    if a.0 <= b.0 { a } else { b }
+    a.min(b)
 }

@@ -1,34 +1,33 @@
-// 01's refusal numbers by name; 0 is done.
-pub const RECORD: u8 = 1;
+// 01's refusals, each with its number; 0 is done.
+ghost use Rattle.std.specs.Prelude.{◌≡◌};
+ghost use Rattle.units.specs.Refusal.{number_of};
 
-pub const BUNDLE: u8 = 2;
+#[derive(Clone, Copy, Debug, PartialEq, Eq)]
+pub enum Refusal {
+    Record = 1,
+    // 02: a choice at an opening that there is not has the same number.
+    Bundle = 2,
+    Window = 3,
+    Rates = 4,
+    Delays = 5,
+    Volume = 6,
+    NoOffer = 7,
+    NoDelay = 8,
+    NotOffered = 9,
+    Full = 10,
+    Polynomial = 11,
+    SelfUpdate = 12,
+    Queue = 13,
+    Classes = 14,
+    // 02, R-7: what is offered has zero length, and the record is strict.
+    ZeroLength = 17,
+}
 
-// 02: a choice at an opening that there is not has the same number.
-pub const CHOICE: u8 = BUNDLE;
-
-pub const WINDOW: u8 = 3;
-
-pub const RATES: u8 = 4;
-
-pub const DELAYS: u8 = 5;
-
-pub const VOLUME: u8 = 6;
-
-pub const NO_OFFER: u8 = 7;
-
-pub const NO_DELAY: u8 = 8;
-
-pub const NOT_OFFERED: u8 = 9;
-
-pub const FULL: u8 = 10;
-
-pub const POLYNOMIAL: u8 = 11;
-
-pub const SELF_UPDATE: u8 = 12;
-
-pub const QUEUE: u8 = 13;
-
-pub const CLASSES: u8 = 14;
-
-// 02, R-7: what is offered has zero length, and the record is strict.
-pub const ZERO_LENGTH: u8 = 17;
+impl Refusal {
+    // Its number in an answer.
+    pub fn number(self) -> u8
+        ensures { result ≡ number_of self }
+    {
+        self as u8
+    }
+}

@@ -1,13 +1,7 @@
--- `bookings::cover_ok` meets its contract: from the date reached on, the segments left have the answer of all.
-use Prim.Native.Nat.{◌-◌}
-use mathlib.Core.Bool.{true}
-use lib.ListN.{take}
-use Rattle.units.proofs.Loop.{Left}
-use Rattle.bookings.proofs.CoverLaws.{cover_on}
+-- `bookings::cover_ok` meets its contract. The invariant: what is left of the list covers what is left of the window.
+use Rattle.std.proofs.Common.{◌≡◌, drop}
+use Rattle.bookings.specs.Listed.{cover_ok}
 use Rattle.bookings.proofs.cover_ok.Given as goal
 
-abbrev pub invariant-loop-i : goal.invariant-loop-i
-invariant-loop-i l = Left (cover_on l.hi.0) (take l.n l.segments) l.n (true, l.initial.at.0) l.i (l.good, l.at.0)
-
-abbrev pub decreases-loop-i : goal.decreases-loop-i
-decreases-loop-i l = l.n - l.i
+abbrev pub invariant-loop-g : goal.invariant-loop-g
+invariant-loop-g l = cover_ok l.fn.window.start.0 l.fn.window.end.0 l.fn.segments ≡ cover_ok l.at.0 l.fn.window.end.0 (drop l.g-index l.segments)

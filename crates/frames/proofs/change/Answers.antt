@@ -2,6 +2,7 @@
 use Prim.Native.Nat.{ℕ}
 use native.Mathlib.Omega.{arith}
 use mathlib.Core.Path.{◌≡◌, ◌∙◌}
+use mathlib.Core.Logic.{⊎_elim}
 use Rattle.hexadecimal.specs.Digits.{byte_at}
 use Rattle.held.specs.declared.Done.{Done}
 use Rattle.frames.specs.Step.{on, change_of}
@@ -17,19 +18,25 @@ known c e q = change-as _ _ c.byte_at-kind.ensures e q
 
 pub returns-in-1 : goal.returns-in-1
 unfolding change_of on
-returns-in-1 c = known (goal.at.returns-in-1 c).After-byte_at-kind c.in-1.is c.free.ensures
+returns-in-1 c =
+    let at = (goal.at.returns-in-1 c).After-byte_at-kind in
+    ⊎_elim (λ e. known at e c.open.ensures) (λ e. known at e c.open.ensures) c.in-1.is
 
 pub returns-in-2 : goal.returns-in-2
 unfolding change_of on
-returns-in-2 c = known (goal.at.returns-in-2 c).After-byte_at-kind c.in-2.is c.priority.ensures
+returns-in-2 c =
+    let at = (goal.at.returns-in-2 c).After-byte_at-kind in
+    ⊎_elim (λ e. known at e c.open-in-2.ensures) (λ e. known at e c.open-in-2.ensures) c.in-2.is
 
 pub returns-in-3 : goal.returns-in-3
 unfolding change_of on
-returns-in-3 c = known (goal.at.returns-in-3 c).After-byte_at-kind c.in-3.is c.polynomial.ensures
+returns-in-3 c =
+    let at = (goal.at.returns-in-3 c).After-byte_at-kind in
+    ⊎_elim (λ e. known at e c.open-in-3.ensures) (λ e. known at e c.open-in-3.ensures) c.in-3.is
 
 pub returns-in-4 : goal.returns-in-4
 unfolding change_of on
-returns-in-4 c = known (goal.at.returns-in-4 c).After-byte_at-kind c.in-4.is c.queue.ensures
+returns-in-4 c = known (goal.at.returns-in-4 c).After-byte_at-kind c.in-4.is c.open-in-4.ensures
 
 pub returns-in-17 : goal.returns-in-17
 unfolding change_of on
@@ -43,19 +50,7 @@ pub returns-in-20 : goal.returns-in-20
 unfolding change_of on
 returns-in-20 c = known (goal.at.returns-in-20 c).After-byte_at-kind c.in-20.is c.dequeue.ensures
 
-pub returns-in-33 : goal.returns-in-33
-unfolding change_of on
-returns-in-33 c = known (goal.at.returns-in-33 c).After-byte_at-kind c.in-33.is c.free-in-33.ensures
-
-pub returns-in-34 : goal.returns-in-34
-unfolding change_of on
-returns-in-34 c = known (goal.at.returns-in-34 c).After-byte_at-kind c.in-34.is c.priority-in-34.ensures
-
-pub returns-in-35 : goal.returns-in-35
-unfolding change_of on
-returns-in-35 c = known (goal.at.returns-in-35 c).After-byte_at-kind c.in-35.is c.polynomial-in-35.ensures
-
 pub returns-in_default : goal.returns-in_default
 returns-in_default c =
     c.refused.ensures
-    ∙ change-none _ _ c.byte_at-kind.ensures (λ e. omega arith) (λ e. omega arith) (λ e. omega arith) (λ e. omega arith) (λ e. omega arith) (λ e. omega arith) (λ e. omega arith) (λ e. omega arith) (λ e. omega arith) (λ e. omega arith)
+    ∙ change-none _ _ c.byte_at-kind.ensures (λ e. grind arith) (λ e. grind arith) (λ e. grind arith) (λ e. grind arith) (λ e. grind arith) (λ e. grind arith) (λ e. grind arith) (λ e. grind arith) (λ e. grind arith) (λ e. grind arith)

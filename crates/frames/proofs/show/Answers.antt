@@ -11,7 +11,7 @@ pub returns-in-16 : goal.returns-in-16
 unfolding show_of on
 returns-in-16 c =
     let a = c.args in
-    stored-as _ (show-as a.line.now a.held c.byte_at-kind.ensures c.in-16.is (ap offer_line c.offer-offer.ensures))
+    stored-as _ (show-as a.line.now a.held c.byte_at-kind.ensures c.in-16.is (ap offer_line c.offer.ensures))
     c.put_offer.ensures
 
 pub returns-in-18 : goal.returns-in-18

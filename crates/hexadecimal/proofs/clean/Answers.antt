@@ -4,12 +4,12 @@ use Rattle.hexadecimal.specs.Digits.{is_digit}
 use Rattle.hexadecimal.proofs.Carried.{carried_first, carried-end, carried_step}
 use Rattle.hexadecimal.proofs.clean.Goals as goal
 
-pub loop-i-init : goal.loop-i-init
-loop-i-init c = carried_first is_digit _
+pub loop-byte-init : goal.loop-byte-init
+loop-byte-init c = carried_first is_digit _
 
-pub loop-i-preserved : goal.loop-i-preserved
-loop-i-preserved c =
-    carried_step is_digit _ _ _ c.loop-i.invariant 0 _ (omega arith) c.is_digit-good.ensures
+pub loop-byte-preserved : goal.loop-byte-preserved
+loop-byte-preserved c =
+    carried_step is_digit _ _ _ c.loop-byte.invariant 0 _ (omega arith) c.is_digit-good.ensures
 
 pub returns : goal.returns
-returns c = carried-end is_digit _ _ _ c.loop-i.invariant (omega arith)
+returns c = carried-end is_digit _ _ _ c.loop-byte.invariant (omega arith)

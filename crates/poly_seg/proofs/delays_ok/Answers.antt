@@ -1,38 +1,43 @@
 -- `poly_seg::delays_ok` meets its contract: the count, then each segment.
-use borrow.Author.Rules.{rules}
-use borrow.Author.Tests.{le-leb, lt-leb}
-use Prim.Native.Nat.{◌≤◌}
+use Rattle.std.proofs.Common.{rules}
+use Rattle.std.proofs.lemmas.Iterator.{YieldsList-from_slice}
+use Rattle.std.proofs.lemmas.Iterator.Search.{all_from_yields_List}
+use Prim.Native.Nat.{◌<◌, ◌≤◌}
 use mathlib.Core.Path.{◌≡◌, sym, ◌∙◌}
+use mathlib.Core.Logic.{⊎_elim}
 use native.Mathlib.Omega.{arith}
-use lib.ListN.{length}
+use lib.ListN.{length, take}
+use borrow.Author.Tests.{le-leb, lt-leb}
 use Rattle.units.specs.Limits.{segments_max}
+use Rattle.units.specs.Logic.{all_of}
 use Rattle.units.proofs.Logic.{both_go, both-stop}
-use Rattle.units.proofs.Each.{each_first, each-end, each-stop, each_step}
+use Rattle.contact.proofs.Told.{list-all, some-if}
 use Rattle.poly_seg.specs.Open.{delay_ok, delays_ok}
+use Rattle.poly_seg.proofs.Told.{front}
 use Rattle.poly_seg.proofs.delays_ok.Goals as goal
-use Rattle.poly_seg.proofs.delays_ok.Goals.{Else-count-gt-COUNT_MAX}
 
-room : (c : Else-count-gt-COUNT_MAX) → c.args.count ≤ length c.args.delays
-room c = let e : length c.args.delays ≡ segments_max = search rules in omega (arith, c.if-count-gt-COUNT_MAX.false)
-
-pub returns-then-count-gt-COUNT_MAX : goal.returns-then-count-gt-COUNT_MAX
+pub returns-in_err-list : goal.returns-in_err-list
 unfolding delays_ok
-returns-then-count-gt-COUNT_MAX c = sym (both-stop _ _ (lt-leb _ _ c.if-count-gt-COUNT_MAX.true))
+returns-in_err-list c =
+    let long : length c.args.delays.now ≡ segments_max = search rules in
+    let many : segments_max < c.args.count =
+    ⊎_elim
+    (λ (z : c.args.count < 0). absurd (omega arith))
+    (λ (z : length c.args.delays.now < c.args.count). omega (arith, long))
+    c.in_err-list.ensures.lookup.0
+    in
+    rw c.from_residual.ensures (both-stop _ _ (lt-leb _ _ many))
 
-pub loop-i-init : goal.loop-i-init
-loop-i-init c = each_first delay_ok _ _
-
-pub loop-i-preserved : goal.loop-i-preserved
-loop-i-preserved c =
-    each_step delay_ok _ _ _ c.loop-i.invariant (room (goal.at.loop-i-preserved c).Else-count-gt-COUNT_MAX) _ c.if-count-i.false (sym c.delay_ok.ensures ∙ c.if-not-delay_ok.false)
-
-pub returns-then-count-i : goal.returns-then-count-i
+pub returns : goal.returns
 unfolding delays_ok
-returns-then-count-i c =
-    sym (both_go _ _ (le-leb _ _ c.if-count-gt-COUNT_MAX.false) ∙ each-end delay_ok _ _ _ c.loop-i.invariant (room (goal.at.returns-then-count-i c).Else-count-gt-COUNT_MAX) c.if-count-i.true)
-
-pub returns-then-not-delay_ok : goal.returns-then-not-delay_ok
-unfolding delays_ok
-returns-then-not-delay_ok c =
-    sym (both_go _ _ (le-leb _ _ c.if-count-gt-COUNT_MAX.false)
-    ∙ each-stop delay_ok _ _ _ c.loop-i.invariant (room (goal.at.returns-then-not-delay_ok c).Else-count-gt-COUNT_MAX) _ c.if-count-i.false (sym c.delay_ok.ensures ∙ c.if-not-delay_ok.true))
+returns c =
+    let h = c.in_ok-list.ensures.lookup.0 in
+    let long : length c.args.delays.now ≡ segments_max = search rules in
+    let few : c.args.count ≤ segments_max = omega (arith, h.1, long) in
+    let used : c.in_ok-list.list.now ≡ take c.args.count c.args.delays.now = h.2 ∙ front _ _ in
+    let each : c.all.result ≡ all_of delay_ok c.in_ok-list.list.now =
+    all_from_yields_List delay_ok _ _ _ c.all.ensures.ran (YieldsList-from_slice c.in_ok-list.list.now cc) (λ x b q k. search rules)
+    ∙ list-all delay_ok c.in_ok-list.list.now
+    in
+    rw c.then_some.ensures
+    (some-if (λ l. l.now ≡ take c.args.count c.args.delays.now) _ _ _ (rw used at each ∙ sym (both_go _ _ (le-leb _ _ few))) used)

@@ -1,36 +1,19 @@
 -- `bookings::cut::parts` meets its contract: each place of the segment beside the send interval leaves its parts.
-use native.Mathlib.Omega.{arith}
-use Rattle.bookings.proofs.CutLaws.{Shared, off-early, off-late, on-whole, on-left, on-right, on-inside}
+use Rattle.std.proofs.Common.{sym}
+use Rattle.units.proofs.Compare.{le-yes, le-not}
+use Rattle.bookings.proofs.Forms.{parts-early, parts-late}
+use Rattle.bookings.proofs.CutLaws.{cut-on}
 use Rattle.bookings.proofs.cut.parts.Goals as goal
-use Rattle.bookings.proofs.cut.parts.Goals.{After-sooner}
+use Rattle.bookings.proofs.cut.parts.Goals.{then-le-via-then-le, then-le-via-else-le+then-le-2}
 
-pub returns-then-last-s : goal.returns-then-last-s
-returns-then-last-s c = off-early _ _ _ _ c.if-last-s.true
-
-pub returns-then-e-first : goal.returns-then-e-first
-returns-then-e-first c = off-late _ _ _ _ c.if-last-s.false c.if-e-first.true
-
-shared : (c : After-sooner) → Shared c.args.send.start c.args.send.end c.args.g c.later.result c.sooner.result
-shared c =
-    record {
-      past = omega (arith, c.if-last-s.false);
-      until = omega (arith, c.if-e-first.false);
-      from = omega (arith, c.later.ensures);
-      to = omega (arith, c.sooner.ensures);
-    }
-
-pub returns-then-e-last : goal.returns-then-e-last
-returns-then-e-last c =
-    on-inside _ _ _ _ _ _ (shared (goal.at.returns-then-e-last c).After-sooner) c.if-first-s.true c.if-e-last.true
-
-pub returns-then-first-s : goal.returns-then-first-s
-returns-then-first-s c =
-    on-left _ _ _ _ _ _ (shared (goal.at.returns-then-first-s c).After-sooner) c.if-first-s.true c.if-e-last.false
-
-pub returns-then-e-last-2 : goal.returns-then-e-last-2
-returns-then-e-last-2 c =
-    on-right _ _ _ _ _ _ (shared (goal.at.returns-then-e-last-2 c).After-sooner) c.if-first-s.false c.if-e-last-2.true
+pub returns-then-le : goal.returns-then-le
+returns-then-le c =
+    elim c.then-le.branch [
+      | then-le-via-then-le w ↦ sym (parts-early _ _ _ _ (le-yes _ _ _ c.le.ensures w.if-le.true))
+      | then-le-via-else-le+then-le-2 w ↦ sym (parts-late _ _ _ _ (le-not _ _ _ c.le.ensures w.if-le.false) (le-yes _ _ _ w.le-else-le.ensures w.if-le-2.true))
+    ]
 
 pub returns : goal.returns
 returns c =
-    on-whole _ _ _ _ _ _ (shared (goal.at.returns c).After-sooner) c.if-first-s.false c.if-e-last-2.false
+    rw (c.then_some.ensures, c.then_some-2.ensures)
+    (cut-on _ _ _ _ _ _ _ _ (le-not _ _ _ c.le.ensures c.if-le.false) (le-not _ _ _ c.le-else-le.ensures c.if-le-2.false) c.later.ensures c.sooner.ensures c.lt.ensures c.lt-2.ensures)

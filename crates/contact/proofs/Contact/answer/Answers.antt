@@ -1,21 +1,12 @@
 -- `contact::Contact::answer` meets its contract: the delays of a contact that keeps its rules are short.
-use mathlib.Core.Path.{◌∙◌, ap}
-use Rattle.segmentation.specs.declared.Delays.{Delays}
-use Rattle.segmentation.specs.Delay.{answer_of}
 use Rattle.segmentation.proofs.DelayLaws.{delays-short}
 use Rattle.contact.proofs.Sound.{sound}
 use Rattle.contact.proofs.Lookup.{all_short}
 use Rattle.contact.proofs.Contact.answer.Goals as goal
 
-pub find_delays-found-requires : goal.find_delays-found-requires
-find_delays-found-requires c = (sound _ c.requires.fact_1).delays.1
+pub delays-requires : goal.delays-requires
+delays-requires c = (sound _ c.requires.kept).delays.1
 
-pub answer-requires : goal.answer-requires
-answer-requires c =
-    let p = c.requires in
-    record { fact_1 = p.fact_2; fact_2 = rw c.find_delays-found.ensures (delays-short _ _ _ _ (all_short _ (sound _ p.fact_1).brief)) }
-
-pub returns : goal.returns
-returns c =
-    let send = c.args.send in
-    c.answer.ensures ∙ ap (λ (d : Delays). answer_of send.start.0 send.end.0 d) c.find_delays-found.ensures
+pub answer-requires-clause-short : goal.answer-requires-clause-short
+answer-requires-clause-short c =
+    rw (c.find_delays-found.ensures, c.delays.ensures) (delays-short _ _ _ _ (all_short _ (sound _ c.requires.kept).brief))

@@ -1,25 +1,11 @@
--- `contact::opening::delays_of` meets its contract: the places passed are copied, the others hold zero.
-use borrow.Author.Rules.{rules}
-use Prim.Native.Nat.{◌≤◌}
-use mathlib.Core.Path.{◌≡◌}
-use native.Mathlib.Omega.{arith}
-use lib.ListN.{length}
+-- `contact::opening::delays_of` meets its contract: the places given are copied, the others hold zero.
+use Rattle.std.proofs.Common.{◌≡◌, rules}
 use Rattle.units.specs.Limits.{segments_max}
-use Rattle.units.proofs.Arrays.{padded-none, padded-turn}
 use Rattle.contact.specs.Segments.{zero_delay}
+use Rattle.contact.proofs.Told.{padded-part}
 use Rattle.contact.proofs.opening.delays_of.Goals as goal
-use Rattle.contact.proofs.opening.delays_of.Goals.{Start}
-
-size : (c : Start) → c.args.count ≤ length c.args.delays
-size c = let e : length c.args.delays ≡ segments_max = search rules in omega arith
-
-pub loop-i-init : goal.loop-i-init
-loop-i-init c = (omega arith, padded-none segments_max zero_delay)
-
-pub loop-i-preserved : goal.loop-i-preserved
-loop-i-preserved c =
-    let l = c.loop-i in
-    (omega arith, rw l.invariant.1 (padded-turn segments_max zero_delay _ l.i _ (omega arith) (omega (arith, size (goal.at.loop-i-preserved c).Start))))
 
 pub returns : goal.returns
-returns c = let e : c.loop-i.i ≡ c.args.count = omega arith in rw (← e) c.loop-i.invariant.1
+returns c =
+    let e : c.default-out.result ≡ zero_delay = search rules in
+    rw (c.copy_from_slice.ensures.after, e) (padded-part segments_max zero_delay c.args.delays.now)

@@ -1,20 +1,18 @@
--- `contact::test::delays_are` meets its contract: the count, then the segments.
-use mathlib.Core.Path.{sym, ◌∙◌}
-use Rattle.units.specs.Limits.{segments_max}
-use Rattle.units.proofs.Counted.{counted_none, counted-many, counted_is}
-use Rattle.units.proofs.Logic.{both-stop}
-use Rattle.contact.specs.Segments.{covers, delays_ok}
+-- `contact::test::delays_are` meets its contract: the count and the dates, then the delays.
+use mathlib.Core.Path.{◌≡◌, sym, ◌∙◌}
+use lib.ListN.{take}
+use Rattle.units.proofs.Logic.{both_go, both-stop}
+use Rattle.contact.specs.Segments.{delays_ok}
+use Rattle.contact.proofs.Told.{some-if}
 use Rattle.contact.proofs.test.delays_are.Goals as goal
 
-pub returns-then-count-lt1 : goal.returns-then-count-lt1
-unfolding delays_ok covers
-returns-then-count-lt1 c = sym (both-stop _ _ (counted_none segments_max _ _ c.if-count-lt1.true))
-
-pub returns-then-count-gt-COUNT_MAX : goal.returns-then-count-gt-COUNT_MAX
-unfolding delays_ok covers
-returns-then-count-gt-COUNT_MAX c = sym (both-stop _ _ (counted-many segments_max _ _ c.if-count-lt1.false c.if-count-gt-COUNT_MAX.true))
+pub returns-in_err-list : goal.returns-in_err-list
+unfolding delays_ok
+returns-in_err-list c = rw c.from_residual.ensures (both-stop _ _ c.in_err-list.ensures)
 
 pub returns : goal.returns
-unfolding delays_ok covers
+unfolding delays_ok
 returns c =
-    c.delays_cover.ensures ∙ sym (rw (counted_is segments_max _ _ c.if-count-lt1.false c.if-count-gt-COUNT_MAX.false))
+    let h = c.in_ok-list.ensures in
+    rw c.then_some.ensures
+    (some-if (λ l. l.now ≡ take c.args.count c.args.delays.now) _ _ _ (rw h.1 at c.short.ensures ∙ sym (both_go _ _ h.0)) h.1)

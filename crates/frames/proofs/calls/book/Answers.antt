@@ -11,4 +11,4 @@ pub returns : goal.returns
 unfolding book_frame
 returns c =
     line-answered c.has.ensures _ _ c.if-not-has.false
-    (rw (c.book.ensures, c.dates_at-dates.ensures, c.bundle_at-bundle.ensures, c.date_at-at.ensures))
+    (rw (c.book.ensures, c.dates_at.ensures, c.bundle_at.ensures, c.date_at.ensures))

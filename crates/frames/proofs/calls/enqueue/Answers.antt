@@ -10,4 +10,4 @@ returns-then-not-has c = line_refused c.has.ensures _ _ c.if-not-has.true c.refu
 pub returns : goal.returns
 unfolding enqueue_frame
 returns c =
-    line-answered c.has.ensures _ _ c.if-not-has.false (rw (c.enqueue.ensures, c.bundle_at-bundle.ensures))
+    line-answered c.has.ensures _ _ c.if-not-has.false (rw (c.enqueue.ensures, c.bundle_at.ensures))

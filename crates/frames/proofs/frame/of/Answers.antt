@@ -1,8 +1,10 @@
 -- `frames::frame::of` meets its contract: digits first, then each kind's arm answers what the table says of that kind.
 use Prim.Native.Nat.{ℕ}
 use mathlib.Core.Bool.{Bool}
+use Rattle.std.specs.Prelude.{Option}
 use native.Mathlib.Omega.{arith}
 use mathlib.Core.Path.{◌≡◌, refl, ap, ◌∙◌}
+use mathlib.Core.Logic.{⊎_elim}
 use Rattle.hexadecimal.specs.Digits.{byte_at}
 use Rattle.frames.specs.declared.frame.Frame.{Frame}
 use Rattle.frames.specs.declared.frame.Frame.TheVariants.{Free, Priority, Polynomial, Queue, Offer, Booking, Listing, Queueing, Room}
@@ -14,13 +16,13 @@ use Rattle.frames.proofs.frame.of.Goals as goal
 use Rattle.frames.proofs.frame.of.Goals.{After-byte_at-kind}
 
 -- a line of digits is what the table says of its kind
-digits : (c : After-byte_at-kind) {r : Frame} → r ≡ kind_frame (byte_at c.args.line.now 0) c.args.line.now
+digits : (c : After-byte_at-kind) {r : Option Frame} → r ≡ kind_frame (byte_at c.args.line.now 0) c.args.line.now
     → r ≡ frame_of c.args.line.now
 unfolding frame_of
 digits c q = line-answered c.is_line.ensures _ _ c.if-not-is_line.false q
 
 -- what the table says of a kind's number it says of the line
-known : (c : After-byte_at-kind) {n : ℕ} {r : Frame} → c.byte_at-kind.result ≡ n → r ≡ kind_frame n c.args.line.now
+known : (c : After-byte_at-kind) {n : ℕ} {r : Option Frame} → c.byte_at-kind.result ≡ n → r ≡ kind_frame n c.args.line.now
     → r ≡ frame_of c.args.line.now
 known c e q = digits c (frame-as _ c.byte_at-kind.ensures e q)
 
@@ -31,20 +33,23 @@ returns-then-not-is_line c = line_refused c.is_line.ensures _ _ c.if-not-is_line
 pub returns-in-1 : goal.returns-in-1
 unfolding kind_frame on
 returns-in-1 c =
-    known (goal.at.returns-in-1 c).After-byte_at-kind c.in-1.is
-    (c.when.ensures ∙ ap (λ (t : Bool). when_of t Free) c.fits.ensures)
+    let at = (goal.at.returns-in-1 c).After-byte_at-kind in
+    let is = c.when.ensures ∙ ap (λ (t : Bool). when_of t Free) c.fits.ensures in
+    ⊎_elim (λ e. known at e is) (λ e. known at e is) c.in-1.is
 
 pub returns-in-2 : goal.returns-in-2
 unfolding kind_frame on
 returns-in-2 c =
-    known (goal.at.returns-in-2 c).After-byte_at-kind c.in-2.is
-    (c.when-in-2.ensures ∙ ap (λ (t : Bool). when_of t Priority) c.fits-in-2.ensures)
+    let at = (goal.at.returns-in-2 c).After-byte_at-kind in
+    let is = c.when-in-2.ensures ∙ ap (λ (t : Bool). when_of t Priority) c.fits-in-2.ensures in
+    ⊎_elim (λ e. known at e is) (λ e. known at e is) c.in-2.is
 
 pub returns-in-3 : goal.returns-in-3
 unfolding kind_frame on
 returns-in-3 c =
-    known (goal.at.returns-in-3 c).After-byte_at-kind c.in-3.is
-    (c.when-in-3.ensures ∙ ap (λ (t : Bool). when_of t Polynomial) c.fits-in-3.ensures)
+    let at = (goal.at.returns-in-3 c).After-byte_at-kind in
+    let is = c.when-in-3.ensures ∙ ap (λ (t : Bool). when_of t Polynomial) c.fits-in-3.ensures in
+    ⊎_elim (λ e. known at e is) (λ e. known at e is) c.in-3.is
 
 pub returns-in-4 : goal.returns-in-4
 unfolding kind_frame on
@@ -88,25 +93,7 @@ returns-in-21 c =
     known (goal.at.returns-in-21 c).After-byte_at-kind c.in-21.is
     (c.when-in-21.ensures ∙ ap (λ (t : Bool). when_of t Room) c.has-in-21.ensures)
 
-pub returns-in-33 : goal.returns-in-33
-unfolding kind_frame on
-returns-in-33 c =
-    known (goal.at.returns-in-33 c).After-byte_at-kind c.in-33.is
-    (c.when-in-33.ensures ∙ ap (λ (t : Bool). when_of t Free) c.fits-in-33.ensures)
-
-pub returns-in-34 : goal.returns-in-34
-unfolding kind_frame on
-returns-in-34 c =
-    known (goal.at.returns-in-34 c).After-byte_at-kind c.in-34.is
-    (c.when-in-34.ensures ∙ ap (λ (t : Bool). when_of t Priority) c.fits-in-34.ensures)
-
-pub returns-in-35 : goal.returns-in-35
-unfolding kind_frame on
-returns-in-35 c =
-    known (goal.at.returns-in-35 c).After-byte_at-kind c.in-35.is
-    (c.when-in-35.ensures ∙ ap (λ (t : Bool). when_of t Polynomial) c.fits-in-35.ensures)
-
 pub returns-in_default : goal.returns-in_default
 returns-in_default c =
     digits (goal.at.returns-in_default c).After-byte_at-kind
-    (frame-none _ c.byte_at-kind.ensures (λ e. omega arith) (λ e. omega arith) (λ e. omega arith) (λ e. omega arith) (λ e. omega arith) (λ e. omega arith) (λ e. omega arith) (λ e. omega arith) (λ e. omega arith) (λ e. omega arith) (λ e. omega arith) (λ e. omega arith) (λ e. omega arith))
+    (frame-none _ c.byte_at-kind.ensures (λ e. grind arith) (λ e. grind arith) (λ e. grind arith) (λ e. grind arith) (λ e. grind arith) (λ e. grind arith) (λ e. grind arith) (λ e. grind arith) (λ e. grind arith) (λ e. grind arith) (λ e. grind arith) (λ e. grind arith) (λ e. grind arith))

@@ -1,25 +1,15 @@
--- `layout::polynomial::polynome` meets its contract.
-use Prim.Native.Nat.{◌<◌, ◌^◌}
-use mathlib.Core.Path.{◌≡◌, ◌∙◌}
-use lib.IntN.{ℤ}
-use lib.Signed.{mag}
-use mir.Syntax.{w64}
-use mir.Val.{to_z, of_z}
-use mir.Facts.{to_z-of_z}
+-- `layout::polynomial::polynome` meets its contract: a coefficient is read back as `signed_at` gave it.
+use Rattle.hexadecimal.proofs.Complement.{read_back}
 use Rattle.layout.specs.Polynomial.{polynome_of}
 use Rattle.layout.proofs.polynomial.polynome.Goals as goal
-
--- a coefficient is read back as `signed_at` gave it
-back : {z t : ℤ} → mag z < 2 ^ 63 → z ≡ t → to_z w64 (of_z w64 z) ≡ t
-back h e = to_z-of_z {w = w64} (record { sfits = h }) ∙ e
 
 pub returns : goal.returns
 unfolding polynome_of
 returns c =
     rw (
-      back c.signed_at-c0.type_inv c.signed_at-c0.ensures,
-      back c.signed_at-c1.type_inv c.signed_at-c1.ensures,
-      back c.signed_at-c2.type_inv c.signed_at-c2.ensures,
-      back c.signed_at-c3.type_inv c.signed_at-c3.ensures,
-      c.date_at-offset.ensures,
+      read_back c.signed_at.ensures record { sfits = c.signed_at.type_inv },
+      read_back c.signed_at-2.ensures record { sfits = c.signed_at-2.type_inv },
+      read_back c.signed_at-3.ensures record { sfits = c.signed_at-3.type_inv },
+      read_back c.signed_at-4.ensures record { sfits = c.signed_at-4.type_inv },
+      c.date_at.ensures,
     )

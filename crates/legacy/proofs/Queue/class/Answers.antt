@@ -3,5 +3,5 @@ use native.Mathlib.Omega.{arith}
 use Rattle.legacy.proofs.Facts.{sound}
 use Rattle.legacy.proofs.Queue.class.Goals as goal
 
-pub overflow_sub-last : goal.overflow_sub-last
-overflow_sub-last c = let s = sound _ c.requires in omega arith
+pub overflow_sub-self : goal.overflow_sub-self
+overflow_sub-self c = let s = sound _ c.requires in omega arith

@@ -1,26 +1,22 @@
--- `legacy::Queue::put` meets its contract: room in the queues up to the class, or the record as it came.
-use borrow.Author.Rules.{rules}
-use mathlib.Core.Path.{sym, ◌∙◌}
+-- `legacy::Queue::put` meets its contract: room in the queues up to the class, or the refusal.
+use mathlib.Core.Path.{sym}
 use native.Mathlib.Omega.{arith}
 use Rattle.units.proofs.Choice.{told-yes, told-no}
-use Rattle.legacy.proofs.Facts.{sound, first-low}
-use Rattle.legacy.proofs.Moves.{put-stop, put_go}
 use Rattle.legacy.specs.Record.{queue_max}
+use Rattle.legacy.proofs.Facts.{sound, first-low}
+use Rattle.legacy.proofs.First.{add_given}
+use Rattle.legacy.proofs.Moves.{put-stop, put_go}
 use Rattle.legacy.proofs.Queue.put.Goals as goal
 
-pub within-requires : goal.within-requires
-within-requires c = let s = sound _ c.requires.fact_1 in omega arith
+pub shared_ref_as_front-within : goal.shared_ref_as_front-within
+shared_ref_as_front-within c = let s = sound _ c.requires.kept in omega arith
 
 pub returns-then-not-within : goal.returns-then-not-within
-returns-then-not-within c =
-    c.refused_queueing.ensures ∙ sym (put-stop _ _ _ c.class-last.ensures c.requires.fact_2 (told-no c.within.ensures c.if-not-within.true))
+returns-then-not-within c = sym (put-stop _ _ _ c.class-reached.ensures c.requires.small (told-no c.within.ensures c.if-not-within.true))
 
-pub add-more-requires : goal.add-more-requires
-add-more-requires c =
-    let s = sound _ c.requires.fact_1 in
-    let low = first-low queue_max c.args.self.queues s.queue in
-    record { fact_1 = (omega arith, c.requires.fact_2); fact_2 = search rules }
+pub add-requires-clause-low : goal.add-requires-clause-low
+add-requires-clause-low c = first-low queue_max c.args.self.queues (sound _ c.requires.kept).queue _
 
 pub returns : goal.returns
 returns c =
-    sym (put_go _ _ _ c.class-last.ensures c.requires.fact_2 (told-yes c.within.ensures c.if-not-within.false) _ c.add-more.ensures)
+    sym (put_go _ _ _ c.class-reached.ensures c.requires.small (told-yes c.within.ensures c.if-not-within.false) _ (add_given _ _ _ _ c.add.ensures))

@@ -1,10 +1,7 @@
--- `legacy::Queue::queue` meets its contract: the queue at the class.
+-- `legacy::Queue::queue` meets its contract: a class is a place.
 use native.Mathlib.Omega.{arith}
 use Rattle.legacy.proofs.Facts.{sound}
 use Rattle.legacy.proofs.Queue.queue.Goals as goal
 
-pub bounds-queues-k : goal.bounds-queues-k
-bounds-queues-k c = let s = sound _ c.requires in omega arith
-
-pub returns : goal.returns
-returns c = let s = sound _ c.requires in record { fact_1 = rw c.class-k.ensures; fact_2 = s.queue _ }
+pub bounds-self-class : goal.bounds-self-class
+bounds-self-class c = let s = sound _ c.requires in omega arith

@@ -1,28 +1,10 @@
--- `legacy::volumes::hold` meets its contract: the places left have the answer of all.
-use borrow.Author.Tests.{le-leb, lt-leb}
+-- `legacy::volumes::hold` meets its contract.
 use borrow.Author.Rules.{rules}
-use Prim.Native.Nat.{◌≤◌}
-use mathlib.Core.Path.{◌≡◌, sym}
-use native.Mathlib.Omega.{arith}
-use lib.ListN.{length}
-use Rattle.units.proofs.Each.{each_first, each-end, each-stop, each_step}
-use Rattle.legacy.specs.Open.{classes_max}
+use borrow.Author.Tests.{tests}
+use Rattle.std.proofs.lemmas.Iterator.{YieldsList-from_slice}
+use Rattle.legacy.specs.Open.{at_least}
+use Rattle.legacy.proofs.All.{all-told}
 use Rattle.legacy.proofs.volumes.hold.Goals as goal
-use Rattle.legacy.proofs.volumes.hold.Goals.{Start}
 
-size : (c : Start) → c.args.count ≤ length c.args.l
-size c = let e : length c.args.l ≡ classes_max = search rules in omega arith
-
-pub loop-i-init : goal.loop-i-init
-loop-i-init c = each_first _ _ _
-
-pub loop-i-preserved : goal.loop-i-preserved
-loop-i-preserved c =
-    each_step _ _ _ _ c.loop-i.invariant (size (goal.at.loop-i-preserved c).Start) _ c.if-count-i.false (le-leb _ _ c.if-v-size.false)
-
-pub returns-then-count-i : goal.returns-then-count-i
-returns-then-count-i c = sym (each-end _ _ _ _ c.loop-i.invariant (size (goal.at.returns-then-count-i c).Start) c.if-count-i.true)
-
-pub returns-then-v-size : goal.returns-then-v-size
-returns-then-v-size c =
-    sym (each-stop _ _ _ _ c.loop-i.invariant (size (goal.at.returns-then-v-size c).Start) _ c.if-count-i.false (lt-leb _ _ c.if-v-size.true))
+pub returns : goal.returns
+returns c = all-told (at_least c.args.size.0) _ _ c.all.ensures.ran (YieldsList-from_slice _ cc) (λ x b q k. search (rules, tests))

@@ -15,18 +15,18 @@ use Rattle.poly.proofs.Polynome.terms.Goals as goal
 asks : (mode : ℕ) (z : ℤ) (k : ℕ) → SFits w64 z → nat_abs (term_of mode z k) ≤ step_max → nat_abs (term_of mode (rd z) k) ≤ step_max
 asks mode z k f h = rw (to_z-of_z f) h
 
-pub term-t0-requires : goal.term-t0-requires
-term-t0-requires c =
+pub term-requires : goal.term-requires
+term-requires c =
     (lit< tt, lit< tt, asks c.args.mode.0 (coefficient c.args.self.coefficients 0) 1 (search rules) (small0 _ _ _ _ _ c.requires.range))
 
-pub term-t1-requires : goal.term-t1-requires
-term-t1-requires c =
+pub term-requires-2 : goal.term-requires-2
+term-requires-2 c =
     (lit< tt, lit< tt, asks c.args.mode.0 (coefficient c.args.self.coefficients 1) 2 (search rules) (small1 _ _ _ _ _ c.requires.range))
 
-pub term-t2-requires : goal.term-t2-requires
-term-t2-requires c =
+pub term-requires-3 : goal.term-requires-3
+term-requires-3 c =
     (lit< tt, lit< tt, asks c.args.mode.0 (coefficient c.args.self.coefficients 2) 3 (search rules) (small2 _ _ _ _ _ c.requires.range))
 
-pub term-t3-requires : goal.term-t3-requires
-term-t3-requires c =
+pub term-requires-4 : goal.term-requires-4
+term-requires-4 c =
     (lit< tt, lit< tt, asks c.args.mode.0 (coefficient c.args.self.coefficients 3) 4 (search rules) (small3 _ _ _ _ _ c.requires.range))

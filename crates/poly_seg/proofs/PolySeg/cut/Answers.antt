@@ -5,7 +5,4 @@ use Rattle.poly_seg.proofs.PolySeg.cut.Goals as goal
 
 pub cut-requires : goal.cut-requires
 unfolding Run
-cut-requires c = record { fact_1 = omega arith; fact_2 = record { from = 0; run = tt }; fact_3 = c.requires }
-
-pub returns : goal.returns
-returns c = c.cut.ensures
+cut-requires c = record { few = omega arith; in_turn = record { from = 0; run = tt }; inside = c.requires }

@@ -5,4 +5,4 @@ use Rattle.poly_seg.proofs.Calls.{chosen-offer}
 use Rattle.poly_seg.proofs.PolySeg.dry_run_kept.Goals as goal
 
 pub returns : goal.returns
-returns c = ap (λ (x : Chosen). x.offer) c.chosen-c.ensures ∙ chosen-offer _ _ _ c.requires
+returns c = ap (λ (x : Chosen). x.offer) c.chosen.ensures ∙ chosen-offer _ _ _ c.requires

@@ -5,8 +5,7 @@ use Rattle.poly_seg.proofs.PolySeg.list.Goals as goal
 
 pub returns-then-not-ok : goal.returns-then-not-ok
 returns-then-not-ok c =
-    rw c.nothing-none.ensures (sym (list-record _ (sym c.ok.ensures ∙ c.if-not-ok.true)))
+    rw (c.number.ensures, c.default.ensures) (sym (list-record _ (sym c.ok.ensures ∙ c.if-not-ok.true)))
 
 pub returns : goal.returns
-returns c =
-    sym (list_done _ (sym c.ok.ensures ∙ c.if-not-ok.false))
+returns c = sym (list_done _ (sym c.ok.ensures ∙ c.if-not-ok.false))

@@ -1,25 +1,39 @@
 -- `poly_seg::PolySeg::open` meets its contract: refused with the opening's number, or put together of its parts.
+use Rattle.std.proofs.Common.{rules}
 use mathlib.Core.Path.{◌≡◌, sym, ap, ◌∙◌}
-use Rattle.poly_seg.specs.Open.{open_of}
-use Rattle.poly_seg.specs.Granted.{number_by}
-use Rattle.poly_seg.proofs.Lookup.{delays-most}
-use Rattle.poly_seg.proofs.Opening.{Passed, open-number, open-passed, open-refused, open-parts}
+use lib.IntN.{pos}
+use Rattle.units.specs.Limits.{segments_max}
+use Rattle.contact.specs.Segments.{zero_delay}
+use Rattle.contact.proofs.Told.{array-of}
+use Rattle.poly_seg.specs.declared.PolySeg.{PolySeg}
+use Rattle.poly_seg.specs.Open.{refused_opening}
+use Rattle.poly_seg.proofs.Opening.{open-number, open-passed, open-refused, open-parts}
+use Rattle.poly_seg.proofs.Told.{number-some}
 use Rattle.poly_seg.proofs.PolySeg.open.Goals as goal
-use Rattle.poly_seg.proofs.PolySeg.open.Goals.{After-opening-number, Else-number-ne0}
+use Rattle.poly_seg.proofs.PolySeg.open.Goals.{After-default}
 
--- what is tested is the opening's number
-number_is : (c : After-opening-number) → let a = c.args in c.opening-number.result ≡ (open_of a.choices a.window a.polynome a.delays a.delay_count).number
-number_is c = c.opening-number.ensures ∙ ap (number_by _ _ _) c.delays_by-held.ensures ∙ sym (open-number _ _ _ _ _)
+-- the default record is all zero
+blank : (c : After-default) → c.default.result.manager ≡ (refused_opening 0).manager
+blank c =
+    let h = c.default.ensures.1 in
+    let coefficients = array-of _ (pos 0) 4 _ (λ x p. search rules) h.1.1.0.0 in
+    let delays = array-of _ zero_delay segments_max _ (λ x p. search rules) h.1.1.1.0 in
+    λ i. record {
+      choices = record { mode = record { 0 = h.0.0 i }; rule = record { 0 = h.0.1.0 i }; strict = record { 0 = h.0.1.1 i } };
+      window = record { start = record { 0 = h.1.0.0 i }; end = record { 0 = h.1.0.1 i } };
+      polynome = record { coefficients = coefficients i; offset = record { 0 = h.1.1.0.1 i } };
+      delays = delays i;
+      delay_count = h.1.1.1.1.0 i;
+      free = h.1.1.1.1.1 i;
+    }
 
-passed : (c : Else-number-ne0) → let a = c.args in Passed a.choices a.window a.polynome a.delays a.delay_count
-passed c = open-passed _ _ _ _ _ (sym (c.opening-number.ensures ∙ ap (number_by _ _ _) c.delays_by-held.ensures ∙ sym (open-number _ _ _ _ _)) ∙ c.if-number-ne0.false)
+pub returns-in-Ok : goal.returns-in-Ok
+returns-in-Ok c =
+    let passed = open-passed _ _ _ _ _ (open-number _ _ _ _ _ ∙ sym c.in-Ok.ensures.number) in
+    open-parts _ _ _ _ _ passed _ (rw c.in-Ok.ensures.used at c.delays_of.ensures) _ c.whole.ensures
 
-pub returns-then-number-ne0 : goal.returns-then-number-ne0
-returns-then-number-ne0 c =
-    c.refused_opening.ensures ∙ sym (open-refused _ _ _ _ _ _ (sym (number_is (goal.at.returns-then-number-ne0 c).After-opening-number)) c.if-number-ne0.true)
-
-pub delays_of-kept-requires : goal.delays_of-kept-requires
-delays_of-kept-requires c = delays-most _ _ _ _ (passed (goal.at.delays_of-kept-requires c).Else-number-ne0).delay
-
-pub returns : goal.returns
-returns c = open-parts _ _ _ _ _ (passed (goal.at.returns c).Else-number-ne0) _ c.delays_of-kept.ensures _ c.whole-free.ensures
+pub returns-in-Err : goal.returns-in-Err
+returns-in-Err c =
+    let is = c.number.ensures ∙ c.in-Err.ensures.number ∙ sym (open-number _ _ _ _ _) in
+    ap (λ (r : PolySeg). record { number = c.number.result; manager = r }) (blank (goal.at.returns-in-Err c).After-default)
+    ∙ sym (open-refused _ _ _ _ _ _ (sym is) (λ z. number-some _ (sym c.number.ensures ∙ z)))

@@ -1,19 +1,17 @@
 -- `seg::FreeVolume::open` meets its contract: the contact's opening, and the whole window listed.
-use borrow.Author.Tests.{eq-eqb, ne_eqb}
 use mathlib.Core.Path.{sym, ap, ◌∙◌}
-use Rattle.units.proofs.Logic.{unless-go, unless-stop}
+use Rattle.units.proofs.Logic.{unless-stop}
+use Rattle.contact.proofs.Refusals.{refusal-some}
 use Rattle.seg.specs.Open.{opened_of, open_of}
 use Rattle.seg.proofs.FreeVolume.open.Goals as goal
 
-pub returns-then-number-ne0 : goal.returns-then-number-ne0
+pub returns-in-Ok : goal.returns-in-Ok
 unfolding open_of
-returns-then-number-ne0 c =
-    c.refused_opening.ensures
-    ∙ sym (unless-stop _ _ _ (ne_eqb _ _ c.if-number-ne0.true))
-    ∙ ap (opened_of c.args.window) c.open-o.ensures
+returns-in-Ok c = rw c.whole.ensures (ap (opened_of c.args.window) c.in-Ok.ensures)
 
-pub returns : goal.returns
+pub returns-in-Err : goal.returns-in-Err
 unfolding open_of
-returns c =
-    rw c.whole-free.ensures
-    (sym (unless-go _ _ _ (eq-eqb _ _ c.if-number-ne0.false)) ∙ ap (opened_of c.args.window) c.open-o.ensures)
+returns-in-Err c =
+    c.refused_opening.ensures
+    ∙ sym (unless-stop _ _ _ (refusal-some c.in-Err.refusal))
+    ∙ ap (opened_of c.args.window) c.in-Err.ensures

@@ -1,17 +1,12 @@
 -- `seg::FreeVolume::room` meets its contract: the record's test, then the figure that it holds.
 use Prim.Native.Nat.{ℕ}
 use mathlib.Core.Path.{sym, ap, ◌∙◌}
-use Rattle.units.proofs.Logic.{unless-go, unless-stop}
-use Rattle.units.proofs.Choice.{told-yes, told-no}
+use Rattle.units.proofs.Logic.{unless-go}
+use Rattle.units.proofs.Choice.{told-yes}
 use Rattle.seg.specs.declared.RoomLeft.{RoomLeft}
 use Rattle.seg.specs.Room.{room_answer}
 use Rattle.seg.proofs.Facts.{facts}
 use Rattle.seg.proofs.FreeVolume.room.Goals as goal
-
-pub returns-then-not-ok : goal.returns-then-not-ok
-unfolding room_answer
-returns-then-not-ok c =
-    c.refused.ensures ∙ sym (unless-stop _ _ _ (told-no c.ok.ensures c.if-not-ok.true))
 
 pub returns : goal.returns
 unfolding room_answer

@@ -33,17 +33,17 @@ module _ (k p : ℕ) (e : p ≡ pick (eqb k 2) 1 0) where
 short : (c : After-rate-rate) (v : ℕ) → v ≤ c.args.rest.0
     → v / c.rate-rate.result.0 ≤ c.args.self.end.0 - c.args.self.start.0
 short c v h =
-    rw c.rate-rate.ensures (time-low c.args.self c.requires.fact_1 v (omega (arith, c.requires.fact_2.1.1)))
+    rw c.rate-rate.ensures (time-low c.args.self c.requires.whole v (omega (arith, c.requires.carried.1.1)))
 
 counts : (c : After-part-part) → c.part-part.result ≤ 1
 counts c = part_low c.args.edition.0 _ c.part-part.ensures
 
 pub overflow_sub-result : goal.overflow_sub-result
-overflow_sub-result c = omega (arith, counts (goal.at.overflow_sub-result c).After-part-part, c.requires.fact_2.1.0)
+overflow_sub-result c = omega (arith, counts (goal.at.overflow_sub-result c).After-part-part, c.requires.carried.1.0)
 
 pub nonzero_div-result : goal.nonzero_div-result
 nonzero_div-result c =
-    omega (arith, c.rate-rate.ensures, rate-some c.args.self c.requires.fact_1 c.args.rest.0 c.requires.fact_2.1.0 c.requires.fact_2.1.1)
+    omega (arith, c.rate-rate.ensures, rate-some c.args.self c.requires.whole c.args.rest.0 c.requires.carried.1.0 c.requires.carried.1.1)
 
 pub overflow_add-result : goal.overflow_add-result
 overflow_add-result c =
@@ -51,7 +51,7 @@ overflow_add-result c =
 
 pub overflow_add-result-2 : goal.overflow_add-result-2
 overflow_add-result-2 c =
-    record { fits = omega (arith, counts (goal.at.overflow_add-result-2 c).After-part-part, short (goal.at.overflow_add-result-2 c).After-rate-rate (c.args.rest.0 - c.part-part.result) (omega arith), c.requires.fact_2.0) }
+    record { fits = omega (arith, counts (goal.at.overflow_add-result-2 c).After-part-part, short (goal.at.overflow_add-result-2 c).After-rate-rate (c.args.rest.0 - c.part-part.result) (omega arith), c.requires.carried.0) }
 
 pub returns : goal.returns
 returns c =

@@ -1,2 +1,0 @@
-pub mod CutHere
-pub mod Unique

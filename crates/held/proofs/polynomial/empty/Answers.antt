@@ -1,6 +1,0 @@
--- `held::polynomial::empty` meets its contract.
-use mathlib.Core.Path.{refl}
-use Rattle.held.proofs.polynomial.empty.Goals as goal
-
-pub returns : goal.returns
-returns c = rw (c.refused-o.ensures, c.nothing-free.ensures) refl

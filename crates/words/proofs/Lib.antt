@@ -1,3 +1,0 @@
-pub mod Threes
-pub mod Numbers
-pub mod Unique

@@ -1,8 +1,0 @@
--- `words::delay_at` meets its contract: the three numbers at its place.
-use native.Mathlib.Omega.{arith}
-use Rattle.words.specs.Words.{delay_from}
-use Rattle.words.proofs.Threes.{read_at}
-use Rattle.words.proofs.delay_at.Goals as goal
-
-pub returns : goal.returns
-returns c = read_at delay_from _ _ _ _ _ (omega arith) (omega arith) (omega arith) (omega arith) _
