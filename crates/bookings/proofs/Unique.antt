@@ -20,6 +20,7 @@ use Rattle.bookings.specs.declared.Level.{Level}
 use Rattle.bookings.specs.declared.Search.{Search}
 use Rattle.bookings.specs.declared.Set.{Set}
 use Rattle.bookings.specs.Cut.{bookings_in}
+use Rattle.bookings.specs.Search.{Run}
 use Rattle.bookings.specs.Granted.{set_in, placed}
 use Rattle.bookings.proofs.LevelFromPriority.from.Reads as of-reads
 use Rattle.bookings.proofs.BookingSegment.follows.Reads as follows-reads
@@ -35,7 +36,6 @@ use Rattle.bookings.proofs.cover_ok.Reads as cover-ok-reads
 use Rattle.bookings.proofs.reach.Reads as reach-reads
 use Rattle.bookings.proofs.Search.begin.Reads as begin-reads
 use Rattle.bookings.proofs.Search.turn.Reads as turn-reads
-use Rattle.bookings.proofs.Search.over.Reads as over-reads
 use Rattle.bookings.proofs.Search.find_run.Reads as find-run-reads
 
 pub of-unique : (priority : Priority) → Determined (of-reads.Post tt (priority, tt))
@@ -67,13 +67,10 @@ module _ (lf : Lfts 2) (self : Bor Search) where
   pub begin-unique : (to start : Date) → Determined (begin-reads.Post lf (self, (to, (start, tt))))
   begin-unique to start r q x y f g = f ∙ sym g
 
-  pub turn-unique : (g : BookingSegment) (run : Option Interval) → Determined (turn-reads.Post lf (self, (g, (run, tt))))
-  turn-unique g run r q x y f h = f ∙ sym h
+  pub turn-unique : (g : BookingSegment) (now : Run) → Determined (turn-reads.Post lf (self, (g, (now, tt))))
+  turn-unique g now r q x y f h = f ∙ sym h
 
 module _ (lf : Lfts 3) (self : Bor Search) (segments : Bor (List BookingSegment)) where
-  pub over-unique : Determined (over-reads.Post lf (self, (segments, tt)))
-  over-unique r q x y f g = f ∙ sym g
-
   pub find-run-unique : Determined (find-run-reads.Post lf (self, (segments, tt)))
   find-run-unique r q x y f g = f ∙ sym g
 

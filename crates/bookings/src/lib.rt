@@ -2,7 +2,6 @@
 #![tactic(auto)]
 
 ghost use Rattle.std.specs.Prelude.{◌≡◌, ℕ, ◌+◌, ◌<◌, ◌≤◌, length, take, List, [], ◌∷◌};
-ghost use Rattle.std.specs.ControlFlow.{break_value};
 ghost use Rattle.std.specs.declared.ops.ControlFlow.TheVariants.{Continue};
 ghost use Rattle.units.specs.Limits.{listed_max};
 ghost use Rattle.segmentation.specs.Granted.{Covers};
@@ -165,38 +164,30 @@ pub fn reach(to: Date, run: Interval) -> ControlFlow<Interval, Option<Interval>>
 
 // `covered` is a clause of each and no ghost field: `Covers` holds the date that the rates run from, and a ghost field holds no data.
 impl Search<'_> {
-    // dry_run_tx: the first run of segments below the priority that reaches its end.
-    pub fn find_run(&self, segments: &[BookingSegment]) -> Option<Interval>
-        requires covered { Covers self.now.window.start.0 self.now.rates.now }
-        requires inside { From self.now.window.start.0 segments.now }
-        ensures { result ≡ break_value (search_of (rule_of self.now.edition.0 self.now.rates.now self.now.size.0 self.now.window.end.0) self.now.asked.0 self.now.priority.0 segments.now (Continue None)) }
-    {
-        self.over(segments).break_value()
-    }
-
-    // The segments in order: the offer, or the run that goes on at their end.
-    pub fn over(&self, segments: &[BookingSegment]) -> ControlFlow<Interval, Option<Interval>>
+    // dry_run_tx: the first run of segments below the priority that reaches its end, or the run that goes on at their end.
+    pub fn find_run(&self, segments: &[BookingSegment]) -> ControlFlow<Interval, Option<Interval>>
         requires covered { Covers self.now.window.start.0 self.now.rates.now }
         requires inside { From self.now.window.start.0 segments.now }
         ensures { result ≡ search_of (rule_of self.now.edition.0 self.now.rates.now self.now.size.0 self.now.window.end.0) self.now.asked.0 self.now.priority.0 segments.now (Continue None) }
     {
         let mut run = None;
         for g in segments {
-            run = self.turn(*g, run)?;
+            run = self.turn(*g, ControlFlow::Continue(run))?;
         }
         ControlFlow::Continue(run)
     }
 
-    // One segment's turn, with the run that goes on, if one does.
-    #[tactic(auto, unfolding(crate::specs::Search::turn_of, crate::specs::Search::free_of, crate::specs::Search::broken_of))]
-    fn turn(
+    // One segment's turn, with what the search has come to before it. An offer stays.
+    #[tactic(auto, unfolding(crate::specs::Search::turn_of, crate::specs::Search::free_of, crate::specs::Search::broken_of, units::specs::Logic::pick))]
+    pub fn turn(
         &self,
         g: BookingSegment,
-        run: Option<Interval>,
+        now: ControlFlow<Interval, Option<Interval>>,
     ) -> ControlFlow<Interval, Option<Interval>>
         requires covered { Covers g.start.0 self.now.rates.now }
-        ensures { result ≡ turn_of (rule_of self.now.edition.0 self.now.rates.now self.now.size.0 self.now.window.end.0) self.now.asked.0 self.now.priority.0 g (Continue run) }
+        ensures { result ≡ turn_of (rule_of self.now.edition.0 self.now.rates.now self.now.size.0 self.now.window.end.0) self.now.asked.0 self.now.priority.0 g now }
     {
+        let run = now?;
         if g.end <= self.asked {
             return ControlFlow::Continue(run);
         }
@@ -211,7 +202,7 @@ impl Search<'_> {
 
     // A run begins, if there is an end by the window's end.
     #[tactic(auto, unfolding(crate::specs::Search::begin_of))]
-    fn begin(&self, to: Date, start: Date) -> ControlFlow<Interval, Option<Interval>>
+    pub fn begin(&self, to: Date, start: Date) -> ControlFlow<Interval, Option<Interval>>
         requires covered { Covers start.0 self.now.rates.now }
         ensures { result ≡ begin_of to.0 start.0 (end_of self.now.edition.0 self.now.rates.now start.0 self.now.size.0 self.now.window.end.0) }
     {

@@ -88,7 +88,7 @@ pub fn hk_priority_dry_run_kept(
         size: bundle.size,
         priority: bundle.priority,
     };
-    let Some(send) = search.find_run(&bookings[..count]) else {
+    let Some(send) = search.find_run(&bookings[..count]).break_value() else {
         return Offer::refused(Refusal::NoOffer.number());
     };
     let found = segmentation::find_delays(choices.rule, &delays[..delay_count], send);

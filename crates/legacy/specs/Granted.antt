@@ -7,19 +7,18 @@ use Rattle.units.specs.declared.refusal.Refusal.{Refusal}
 use Rattle.units.specs.Logic.{unless, pick}
 use Rattle.units.specs.Limits.{load_ok}
 use Rattle.units.specs.Answer.{refused}
-use Rattle.units.specs.Refusal.{number_of}
+use Rattle.units.specs.Refusal.{number_of, told}
 use Rattle.legacy.specs.declared.Queue.{Queue}
 use Rattle.legacy.specs.declared.Booked.{Booked}
-use Rattle.legacy.specs.Queueing.{refused_queueing}
 
--- the answer of a dry run, of a booking or manual queueing to what was found
+-- the answer of a dry run to what was found
 abbrev pub offer_by : Result TxData Refusal → Offer
 offer_by (Ok d) = record { number = 0; dates = d }
 offer_by (Err r) = refused (number_of r)
 
-abbrev pub booked_by : Queue → Result Queue Refusal → Booked
-booked_by m (Ok left) = record { number = 0; manager = left }
-booked_by m (Err r) = refused_queueing (number_of r) m
+-- what is done to a record where it stands, or refused: the number, and the record as it stands then
+abbrev pub left_by : Queue → Result Unit Refusal → Booked
+left_by m r = record { number = told r; manager = m }
 
 -- the tests of manual queueing before 13
 unfoldable pub manual_refusal : Queue → Bundle → ℕ

@@ -11,7 +11,7 @@ ghost use Rattle.legacy.specs.DryRun.{dry_run_of, class_of, queue_at, budget_at,
 ghost use Rattle.legacy.specs.Queueing.{enqueue_at, dequeue_at, enqueue_of, dequeue_of};
 ghost use Rattle.legacy.specs.Book.{book_of};
 ghost use Rattle.legacy.specs.List.{list_of};
-ghost use Rattle.legacy.specs.Granted.{offer_by, booked_by, manual_refusal};
+ghost use Rattle.legacy.specs.Granted.{offer_by, left_by, manual_refusal};
 
 use units::blank::unused;
 use units::refusal::Refusal;
@@ -103,6 +103,16 @@ fn offer(dates: Result<TxData, Refusal>) -> Offer
     }
 }
 
+// The number of what is done, or refused.
+fn number(done: Result<(), Refusal>) -> u8
+    ensures { result ≡ told done }
+{
+    match done {
+        Ok(()) => 0,
+        Err(refusal) => refusal.number(),
+    }
+}
+
 // `record_ok` stays a clause of the kept calls and of what is inside: they take a record as C holds it, docs/CALLS.md names them with that clause (`dry_run_kept`, `book_kept`), and a type with it as its invariant would ask more of their callers.
 impl Queue {
     pub const CLASSES_MAX: usize = 8;
@@ -123,9 +133,16 @@ impl Queue {
 
     // 1 to 8 classes, and a budget inside its limits for each where there are budgets; else zero. Its arguments, as those of
     // `rate_ok` and `open`, are no struct's: the calls keep their signatures, of which proofs/Unique speaks.
-    #[tactic(auto, unfolding(crate::specs::Open::budgets_ok, units::specs::Logic::both))]
     pub fn budgets_ok(classes: usize, flags: Flags, budgets: [Volume; Queue::CLASSES_MAX]) -> bool
         ensures { result ≡ budgets_ok classes flags budgets }
+    {
+        Queue::budgets_hold(classes, flags, &budgets)
+    }
+
+    // The same of budgets where they stand, as a record's.
+    #[tactic(auto, unfolding(crate::specs::Open::budgets_ok, units::specs::Logic::both))]
+    fn budgets_hold(classes: usize, flags: Flags, budgets: &[Volume; Queue::CLASSES_MAX]) -> bool
+        ensures { result ≡ budgets_ok classes flags budgets.now }
     {
         let used = if flags.budgeted { classes } else { 0 };
         (1..=Queue::CLASSES_MAX).contains(&classes)
@@ -135,8 +152,8 @@ impl Queue {
 
     // An opening's tests: 2 for a choice that there is not, then 3, 6, 5, 14 in this order.
     #[tactic(auto, unfolding(crate::specs::Open::open_of))]
-    fn check(self) -> Result<(), Refusal>
-        ensures { let o = open_of self.choices self.window self.rate self.delay self.classes self.flags self.budgets in told result ≡ o.number }
+    fn check(&self) -> Result<(), Refusal>
+        ensures { let m = self.now in let o = open_of m.choices m.window m.rate m.delay m.classes m.flags m.budgets in told result ≡ o.number }
     {
         if !self.choices.ok() {
             return Err(Refusal::Bundle);
@@ -150,7 +167,7 @@ impl Queue {
         if Delay::MAX < self.delay.0 {
             return Err(Refusal::Delays);
         }
-        if !Queue::budgets_ok(self.classes, self.flags, self.budgets) {
+        if !Queue::budgets_hold(self.classes, self.flags, &self.budgets) {
             return Err(Refusal::Classes);
         }
         Ok(())
@@ -169,29 +186,40 @@ impl Queue {
         ensures { result ≡ open_of choices window rate delay classes flags budgets }
     {
         let zero = Queue::default();
-        let manager = Queue {
-            choices,
-            window,
-            rate,
-            delay,
-            classes,
-            flags,
-            budgets,
-            ..zero
-        };
-        match manager.check() {
-            Ok(()) => Opened { number: 0, manager },
-            Err(refusal) => Opened {
-                number: refusal.number(),
-                manager: zero,
+        let mut opened = Opened {
+            number: 0,
+            manager: Queue {
+                choices,
+                window,
+                rate,
+                delay,
+                classes,
+                flags,
+                budgets,
+                ..zero
             },
+        };
+        match opened.manager.check() {
+            Ok(()) => opened,
+            Err(refusal) => {
+                opened.number = refusal.number();
+                opened.manager = zero;
+                opened
+            }
         }
     }
 
     // Does the record keep its rules?
-    #[tactic(auto, unfolding(crate::specs::Record::record_ok, units::specs::Logic::both))]
     pub fn ok(self) -> bool
         ensures { result ≡ record_ok self }
+    {
+        self.keeps()
+    }
+
+    // The same of a record where it stands.
+    #[tactic(auto, unfolding(crate::specs::Record::record_ok, units::specs::Logic::both))]
+    fn keeps(&self) -> bool
+        ensures { result ≡ record_ok self.now }
     {
         self.check().is_ok()
             && volumes::within(&self.queues[..self.classes], Queue::QUEUE_MAX)
@@ -226,10 +254,10 @@ impl Queue {
     }
 
     // The send start: with added delay the queue before the bundle is sent first.
-    fn start(self, at: Date, queue: Volume) -> Date
-        requires kept { record_ok self ≡ true }
+    fn start(&self, at: Date, queue: Volume) -> Date
+        requires kept { record_ok self.now ≡ true }
         requires low { (at.0 ≤ date_max) × (queue.0 ≤ queue_max) }
-        ensures { result.0 ≡ start_at self at.0 queue.0 }
+        ensures { result.0 ≡ start_at self.now at.0 queue.0 }
     {
         let from = self.window.start;
         let wait = queue.0 / self.rate.0;
@@ -243,9 +271,9 @@ impl Queue {
     }
 
     // The dates of the offer, on a record that keeps its rules: 2, then 7.
-    fn answer(self, at: Date, bundle: Bundle) -> Result<TxData, Refusal>
-        requires { record_ok self ≡ true }
-        ensures { offer_by result ≡ dry_run_of self at bundle }
+    fn answer(&self, at: Date, bundle: Bundle) -> Result<TxData, Refusal>
+        requires { record_ok self.now ≡ true }
+        ensures { offer_by result ≡ dry_run_of self.now at bundle }
     {
         if !bundle.ok_at(at) {
             return Err(Refusal::Bundle);
@@ -281,66 +309,50 @@ impl Queue {
     pub fn dry_run(self, at: Date, bundle: Bundle) -> Offer
         ensures { result ≡ dry_run_of self at bundle }
     {
-        if !self.ok() {
+        if !self.keeps() {
             return Offer::refused(Refusal::Record.number());
         }
-        self.dry_run_kept(at, bundle)
-    }
-
-    // The answer to what is done, or refused: then with the record as it came.
-    fn booked(self, done: Result<Queue, Refusal>) -> Booked
-        ensures { result ≡ booked_by self done }
-    {
-        match done {
-            Ok(manager) => Booked { number: 0, manager },
-            Err(refusal) => Booked {
-                number: refusal.number(),
-                manager: self,
-            },
-        }
+        offer(self.answer(at, bundle))
     }
 
     // `put` and `pull`, and the calls over them, stay two of a shape: each promises a definition of its own (`enqueue_at`, `dequeue_at`), and one function would take the test and the change as closures, each with a clause.
     // VolumeManager::enqueue: the size is added to classes 0 to the bundle's own, all or none: 13.
-    fn put(self, bundle: Bundle) -> Result<Queue, Refusal>
-        requires kept { record_ok self ≡ true }
+    fn put(&mut self, bundle: Bundle) -> Result<(), Refusal>
+        requires kept { record_ok self.old ≡ true }
         requires small { bundle.size.0 ≤ volume_max }
-        ensures { booked_by self result ≡ enqueue_at self bundle }
+        ensures { left_by self.new result ≡ enqueue_at self.old bundle }
     {
         let reached = self.class(bundle.priority) + 1;
         if !volumes::within(&self.queues[..reached], Queue::QUEUE_MAX - bundle.size.0) {
             return Err(Refusal::Queue);
         }
-        let mut queues = self.queues;
-        volumes::add(&mut queues[..reached], bundle.size);
-        Ok(Queue { queues, ..self })
+        volumes::add(&mut self.queues[..reached], bundle.size);
+        Ok(())
     }
 
     // VolumeManager::dequeue: the size is taken from classes 0 to the bundle's own, all or none: 13.
-    fn pull(self, bundle: Bundle) -> Result<Queue, Refusal>
-        requires { record_ok self ≡ true }
-        ensures { booked_by self result ≡ dequeue_at self bundle }
+    fn pull(&mut self, bundle: Bundle) -> Result<(), Refusal>
+        requires { record_ok self.old ≡ true }
+        ensures { left_by self.new result ≡ dequeue_at self.old bundle }
     {
         let reached = self.class(bundle.priority) + 1;
         if !volumes::hold(&self.queues[..reached], bundle.size) {
             return Err(Refusal::Queue);
         }
-        let mut queues = self.queues;
-        volumes::take(&mut queues[..reached], bundle.size);
-        Ok(Queue { queues, ..self })
+        volumes::take(&mut self.queues[..reached], bundle.size);
+        Ok(())
     }
 
-    // The record that a booking leaves: 2, 9, 17, then 13.
-    fn try_book(self, at: Date, bundle: Bundle, dates: TxData) -> Result<Queue, Refusal>
-        requires { record_ok self ≡ true }
-        ensures { booked_by self result ≡ book_of self at bundle dates }
+    // The booking where the record stands, which a refusal leaves as it came: 2, 9, 17, then 13.
+    fn try_book(&mut self, at: Date, bundle: Bundle, dates: TxData) -> Result<(), Refusal>
+        requires { record_ok self.old ≡ true }
+        ensures { left_by self.new result ≡ book_of self.old at bundle dates }
     {
-        self.dry_run_kept(at, bundle)
-            .check(self.choices.strict, dates)?;
+        offer(self.answer(at, bundle)).check(self.choices.strict, dates)?;
         if self.flags.self_update {
             return self.put(bundle);
         }
-        Ok(self)
+        Ok(())
     }
 
     // The booking on such a record.
@@ -348,7 +360,12 @@ impl Queue {
         requires { record_ok self ≡ true }
         ensures { result ≡ book_of self at bundle dates }
     {
-        self.booked(self.try_book(at, bundle, dates))
+        let mut done = Booked {
+            number: 0,
+            manager: self,
+        };
+        done.number = number(done.manager.try_book(at, bundle, dates));
+        done
     }
 
     // schedule_tx, with the time that the dry run was asked: 1, 2, 9, 17, then 13; enqueues only under self-update.
@@ -356,16 +373,21 @@ impl Queue {
     pub fn book(self, at: Date, bundle: Bundle, dates: TxData) -> Booked
         ensures { result ≡ book_of self at bundle dates }
     {
-        if !self.ok() {
-            return self.booked(Err(Refusal::Record));
+        let mut done = Booked {
+            number: Refusal::Record.number(),
+            manager: self,
+        };
+        if !done.manager.keeps() {
+            return done;
         }
-        self.book_kept(at, bundle, dates)
+        done.number = number(done.manager.try_book(at, bundle, dates));
+        done
     }
 
     // The tests of manual queueing: 2, 12.
     #[tactic(auto, unfolding(crate::specs::Granted::manual_refusal))]
-    fn check_manual(self, bundle: Bundle) -> Result<(), Refusal>
-        ensures { told result ≡ manual_refusal self bundle }
+    fn check_manual(&self, bundle: Bundle) -> Result<(), Refusal>
+        ensures { told result ≡ manual_refusal self.now bundle }
     {
         if !bundle.ok() {
             return Err(Refusal::Bundle);
@@ -376,18 +398,18 @@ impl Queue {
         Ok(())
     }
 
-    // The records that manual queueing leaves: 2, 12, then 13.
-    fn try_enqueue(self, bundle: Bundle) -> Result<Queue, Refusal>
-        requires { record_ok self ≡ true }
-        ensures { booked_by self result ≡ enqueue_of self bundle }
+    // Manual queueing where the record stands, which a refusal leaves as it came: 2, 12, then 13.
+    fn try_enqueue(&mut self, bundle: Bundle) -> Result<(), Refusal>
+        requires { record_ok self.old ≡ true }
+        ensures { left_by self.new result ≡ enqueue_of self.old bundle }
     {
         self.check_manual(bundle)?;
         self.put(bundle)
     }
 
-    fn try_dequeue(self, bundle: Bundle) -> Result<Queue, Refusal>
-        requires { record_ok self ≡ true }
-        ensures { booked_by self result ≡ dequeue_of self bundle }
+    fn try_dequeue(&mut self, bundle: Bundle) -> Result<(), Refusal>
+        requires { record_ok self.old ≡ true }
+        ensures { left_by self.new result ≡ dequeue_of self.old bundle }
     {
         self.check_manual(bundle)?;
         self.pull(bundle)
@@ -398,7 +420,12 @@ impl Queue {
         requires { record_ok self ≡ true }
         ensures { result ≡ enqueue_of self bundle }
     {
-        self.booked(self.try_enqueue(bundle))
+        let mut done = Booked {
+            number: 0,
+            manager: self,
+        };
+        done.number = number(done.manager.try_enqueue(bundle));
+        done
     }
 
     // manual_enqueue: 1, 2, 12, 13.
@@ -406,10 +433,15 @@ impl Queue {
     pub fn enqueue(self, bundle: Bundle) -> Booked
         ensures { result ≡ enqueue_of self bundle }
     {
-        if !self.ok() {
-            return self.booked(Err(Refusal::Record));
+        let mut done = Booked {
+            number: Refusal::Record.number(),
+            manager: self,
+        };
+        if !done.manager.keeps() {
+            return done;
         }
-        self.enqueue_kept(bundle)
+        done.number = number(done.manager.try_enqueue(bundle));
+        done
     }
 
     // manual_dequeue on a record that keeps its rules.
@@ -417,7 +449,12 @@ impl Queue {
         requires { record_ok self ≡ true }
         ensures { result ≡ dequeue_of self bundle }
     {
-        self.booked(self.try_dequeue(bundle))
+        let mut done = Booked {
+            number: 0,
+            manager: self,
+        };
+        done.number = number(done.manager.try_dequeue(bundle));
+        done
     }
 
     // manual_dequeue: 1, 2, 12, 13.
@@ -425,10 +462,15 @@ impl Queue {
     pub fn dequeue(self, bundle: Bundle) -> Booked
         ensures { result ≡ dequeue_of self bundle }
     {
-        if !self.ok() {
-            return self.booked(Err(Refusal::Record));
+        let mut done = Booked {
+            number: Refusal::Record.number(),
+            manager: self,
+        };
+        if !done.manager.keeps() {
+            return done;
         }
-        self.dequeue_kept(bundle)
+        done.number = number(done.manager.try_dequeue(bundle));
+        done
     }
 
     // The class count and each class's queue: 1.
@@ -436,7 +478,7 @@ impl Queue {
     pub fn list(self) -> Listing
         ensures { result ≡ list_of self }
     {
-        if !self.ok() {
+        if !self.keeps() {
             return Listing {
                 number: Refusal::Record.number(),
                 ..Listing::default()

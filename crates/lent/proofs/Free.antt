@@ -1,4 +1,4 @@
--- The free-volume manager through every door: a run of lent calls, of kept ones and of the trace program's parts of a booking is a run of the
+-- The free-volume manager through every door: a run of lent calls, of kept ones, of a booking's parts and of the trace program's is a run of the
 -- manager's total calls; so what is proved of these, demand 3 first, is proved of those.
 use Prim.Native.Nat.{ℕ}
 use mathlib.Core.Bool.{true}
@@ -44,7 +44,8 @@ use Rattle.seg.proofs.FreeVolume.book_kept.Reads as kept-book-reads
 use Rattle.demand.specs.Opened.{DemandIn}
 use Rattle.demand.proofs.Opened.{demand-3-opened}
 use Rattle.howrekano.proofs.Unique.{Answered, Stored}
-use Rattle.lent.proofs.FreeDoors.{DryByWords, DryChosen, BookByWords, BookChosen, Dry, Book, doors}
+use Rattle.units.specs.Refusal.{told}
+use Rattle.lent.proofs.FreeDoors.{DryByWords, DryChosen, BookByWords, BookChosen, BookHere, Dry, Book, doors}
 
 -- what a dry run and a booking are by each
 dry-is : (r : FreeVolume) (at : Date) (b : Bundle) (o : Offer) → record_ok r ≡ true → Dry r at b o → o ≡ dry_run_of r at b
@@ -74,13 +75,20 @@ chosen-books r at b d x ok (c, m, e) =
     p.1.4 ∙ ap (λ (m : FreeVolume). record { number = k.number; manager = m }) (left_is r k p.1.1 cut.1 p.1.3.1) ∙ rw (cut.0, is) (sym done))
     e
 
+here-books : (r : FreeVolume) (at : Date) (b : Bundle) (d : TxData) (x : Booked) → BookHere r at b d x → x ≡ book_of r at b d
+here-books r at b d x (κs, a, e, t, came, when, bundle, dates, post, number, left) =
+    let is : made (told t) e.0.now ≡ book_of r at b d = rw (← came, ← when, ← bundle, ← dates) post in
+    one x (book_of r at b d) (sym number ∙ ap (λ (y : Booked). y.number) is) (sym left ∙ ap (λ (y : Booked). y.manager) is)
+
 book-is : (r : FreeVolume) (at : Date) (b : Bundle) (d : TxData) (x : Booked) → record_ok r ≡ true → Book r at b d x → x ≡ book_of r at b d
 book-is r at b d x ok =
     ⊎_elim (λ (p : Stored (book_of r at b d).number (book_of r at b d).manager x.number x.manager). one x (book_of r at b d) p.0 p.1)
     (⊎_elim (λ (p : Met (kept-book-reads.Post tt (r, (at, (b, (d, tt))))) x). p.1)
     (⊎_elim
     (λ (p : BookByWords r at b d x). one x (book_of r at b d) (rw (← p.3, ← p.4, ← p.5, ← p.6) p.7.0) (sym p.8 ∙ rw (← p.3, ← p.4, ← p.5, ← p.6) p.7.1.0))
-    (λ (p : BookChosen r at b d x). chosen-books r at b d x ok p)))
+    (⊎_elim
+    (λ (p : BookChosen r at b d x). chosen-books r at b d x ok p)
+    (λ (p : BookHere r at b d x). here-books r at b d x p))))
 
 -- a run through any doors, call by call, is a run of the total calls
 pub doors-run : (x y : State FreeVolume) → record_ok x.manager ≡ true → Runs doors x y → Runs promised x y

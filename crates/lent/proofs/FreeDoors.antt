@@ -1,4 +1,4 @@
--- The doors of the free-volume manager: its calls lent and kept, by value and over a record's parts, and the trace program's parts of a booking, by what each promises.
+-- The doors of the free-volume manager: its calls lent and kept, by value and over a record's parts, a booking by its parts, and the trace program's, by what each promises.
 use mathlib.Core.Path.{◌≡◌}
 use mathlib.Core.Logic.{◌⊎◌}
 use borrow.Fn.Kinds.{Dens, ended_of}
@@ -12,6 +12,9 @@ use Rattle.units.specs.declared.Offer.{Offer}
 use Rattle.units.specs.Logged.{Calls, promising}
 use Rattle.units.proofs.Determined.{Met}
 use Rattle.units.specs.Granted.{refusal_of}
+use Rattle.std.proofs.Common.{Result}
+use Rattle.units.specs.declared.refusal.Refusal.{Refusal}
+use Rattle.units.specs.Refusal.{told}
 use Rattle.contact.specs.Record.{strict_of}
 use Rattle.free_list.specs.declared.Chosen.{Chosen}
 use Rattle.free_list.specs.declared.Cut.{Cut}
@@ -27,6 +30,8 @@ use Rattle.seg.proofs.FreeVolume.chosen.Reads as chosen-reads
 use Rattle.seg.proofs.FreeVolume.cut.Reads as cut-reads
 use Rattle.seg.proofs.FreeVolume.dry_run_kept.Reads as kept-dry-reads
 use Rattle.seg.proofs.FreeVolume.book_kept.Reads as kept-book-reads
+use Rattle.seg.proofs.FreeVolume.book_here.Kinds as here-kinds
+use Rattle.seg.proofs.FreeVolume.book_here.Reads as here-reads
 use Rattle.howrekano.specs.Words.{free_volume_in}
 use Rattle.howrekano.proofs.Unique.{Answered, Stored}
 use Rattle.howrekano.proofs.free.hk_free_dry_run_kept.Kinds as words-dry-kinds
@@ -63,7 +68,7 @@ BookByWords r at b d x =
 abbrev pub DryChosen : FreeVolume → Date → Bundle → Offer → Type 0
 DryChosen r at b o = (c : Chosen) × (Met (chosen-reads.Post tt (r, (at, (b, tt)))) c) × (o ≡ c.offer)
 
--- and its booking: the answer's refusal, and the record stays; or a cut where it was chosen, and the room that this changes
+-- and a booking by its parts: the answer's refusal, and the record stays; or a cut where it was chosen, and the room that this changes
 abbrev pub BookChosen : FreeVolume → Date → Bundle → TxData → Booked → Type 0
 BookChosen r at b d x =
     (c : Chosen) × (Met (chosen-reads.Post tt (r, (at, (b, tt)))) c)
@@ -72,12 +77,22 @@ BookChosen r at b d x =
     × ((k : Cut) × (n : Volume) × (Met (cut-reads.Post tt (r, (c.place, (d.send, (b.size, tt))))) k) × (Met (changed-reads.Post tt (r.room, (k.off, (k.on, tt)))) n)
     × (x ≡ record { number = k.number; manager = with_left r k.list n }))))
 
--- every door: a total call lent, a kept one by value, a kept one over a record's parts, the trace program's
+-- the trace program's booking where the record stands: the record that is lent, its number, and the record that is left there
+module _ (κs : Lfts 1) (a : Dens κs here-kinds.ps) where
+  abbrev pub HereExit : Type 0
+  HereExit = AtExit (ended_of 1 here-kinds.ps here-kinds.r) κs
+
+abbrev pub BookHere : FreeVolume → Date → Bundle → TxData → Booked → Type 0
+BookHere r at b d x =
+    (κs : Lfts 1) × (a : Dens κs here-kinds.ps) × (e : HereExit κs a) × (t : Result Unit Refusal) × (a.0.now ≡ r) × (a.1.0 ≡ at) × (a.1.1.0 ≡ b) × (a.1.1.1.0 ≡ d)
+    × (here-reads.Post κs a t e) × (told t ≡ x.number) × (e.0.now ≡ x.manager)
+
+-- every door: a total call lent, a kept one by value, a kept one over a record's parts, a booking by its parts, the trace program's
 abbrev pub Dry : FreeVolume → Date → Bundle → Offer → Type 0
 Dry r at b o = (Answered (dry_run_of r at b) o) ⊎ ((Met (kept-dry-reads.Post tt (r, (at, (b, tt)))) o) ⊎ ((DryByWords r at b o) ⊎ (DryChosen r at b o)))
 
 abbrev pub Book : FreeVolume → Date → Bundle → TxData → Booked → Type 0
-Book r at b d x = (Stored (book_of r at b d).number (book_of r at b d).manager x.number x.manager) ⊎ ((Met (kept-book-reads.Post tt (r, (at, (b, (d, tt))))) x) ⊎ ((BookByWords r at b d x) ⊎ (BookChosen r at b d x)))
+Book r at b d x = (Stored (book_of r at b d).number (book_of r at b d).manager x.number x.manager) ⊎ ((Met (kept-book-reads.Post tt (r, (at, (b, (d, tt))))) x) ⊎ ((BookByWords r at b d x) ⊎ ((BookChosen r at b d x) ⊎ (BookHere r at b d x))))
 
 abbrev pub doors : Calls
 doors = promising promised Dry Book (λ r o. Answered (list_of r) o) (λ r a. ⊥)

@@ -1,4 +1,4 @@
--- The priority manager through every door: a run of lent calls, of kept ones and of the trace program's parts of a booking is a run of the
+-- The priority manager through every door: a run of lent calls, of kept ones, of a booking's parts and of the trace program's is a run of the
 -- manager's total calls; so what is proved of these is proved of those.
 use Prim.Native.Nat.{ℕ}
 use mathlib.Core.Bool.{true}
@@ -19,6 +19,9 @@ use Rattle.units.specs.Logged.{Calls, State, promising, Runs, RunsFrom}
 use Rattle.units.proofs.Determined.{Met}
 use Rattle.units.proofs.Logged.{run-into}
 use Rattle.units.specs.Granted.{refusal_of}
+use Rattle.std.proofs.Common.{Result}
+use Rattle.units.specs.declared.refusal.Refusal.{Refusal}
+use Rattle.units.specs.Refusal.{told}
 use Rattle.segmentation.specs.declared.RateSegment.{RateSegment}
 use Rattle.segmentation.specs.declared.DelaySegment.{DelaySegment}
 use Rattle.contact.specs.declared.Choices.{Choices}
@@ -38,6 +41,8 @@ use Rattle.pseg.proofs.Promised.{promised, dry-run-met, book-met, list-met, open
 use Rattle.pseg.proofs.PrioritySeg.set.Reads as set_Reads
 use Rattle.pseg.proofs.PrioritySeg.dry_run_kept.Reads as kept-dry-reads
 use Rattle.pseg.proofs.PrioritySeg.book_kept.Reads as kept-book-reads
+use Rattle.pseg.proofs.PrioritySeg.book_here.Kinds as here-kinds
+use Rattle.pseg.proofs.PrioritySeg.book_here.Reads as here-reads
 use Rattle.howrekano.specs.Words.{priority_seg_in}
 use Rattle.howrekano.proofs.Unique.{Answered, Stored}
 use Rattle.howrekano.proofs.priority.hk_priority_dry_run_kept.Kinds as words-dry-kinds
@@ -70,7 +75,7 @@ BookByWords r at b d x =
     (κs : Lfts 6) × (a : Dens κs words-book-kinds.ps) × (e : Exit κs a) × (held κs a ≡ r) × (a.1.1.1.1.1.1.1.0 ≡ at) × (a.1.1.1.1.1.1.1.1.0 ≡ b) × (a.1.1.1.1.1.1.1.1.1.0.now ≡ d)
     × (words-book-reads.Post κs a x.number e) × (left κs a e ≡ x.manager)
 
--- the trace program's booking: the kept dry run's refusal, and the record stays; or its send interval set to the priority
+-- a booking by its parts: the kept dry run's refusal, and the record stays; or its send interval set to the priority
 abbrev BookSet : PrioritySeg → Date → Bundle → TxData → Booked → Type 0
 BookSet r at b d x =
     (o : Offer) × (Met (kept-dry-reads.Post tt (r, (at, (b, tt)))) o)
@@ -78,12 +83,22 @@ BookSet r at b d x =
     ⊎ ((refusal_of (strict_of r.contact) o d ≡ 0)
     × ((k : Set) × (Met (set_Reads.Post tt (r, (d.send, (b.priority, tt)))) k) × (x ≡ record { number = k.number; manager = record { contact = r.contact; bookings = k.bookings } }))))
 
--- every door: a total call lent, a kept one by value, a kept one over a record's parts, the trace program's
+-- the trace program's booking where the record stands: the record that is lent, its number, and the record that is left there
+module _ (κs : Lfts 1) (a : Dens κs here-kinds.ps) where
+  abbrev HereExit : Type 0
+  HereExit = AtExit (ended_of 1 here-kinds.ps here-kinds.r) κs
+
+abbrev BookHere : PrioritySeg → Date → Bundle → TxData → Booked → Type 0
+BookHere r at b d x =
+    (κs : Lfts 1) × (a : Dens κs here-kinds.ps) × (e : HereExit κs a) × (t : Result Unit Refusal) × (a.0.now ≡ r) × (a.1.0 ≡ at) × (a.1.1.0 ≡ b) × (a.1.1.1.0 ≡ d)
+    × (here-reads.Post κs a t e) × (told t ≡ x.number) × (e.0.now ≡ x.manager)
+
+-- every door: a total call lent, a kept one by value, a kept one over a record's parts, a setting after a kept dry run, the trace program's
 abbrev Dry : PrioritySeg → Date → Bundle → Offer → Type 0
 Dry r at b o = (Answered (dry_run_of r at b) o) ⊎ ((Met (kept-dry-reads.Post tt (r, (at, (b, tt)))) o) ⊎ (DryByWords r at b o))
 
 abbrev Book : PrioritySeg → Date → Bundle → TxData → Booked → Type 0
-Book r at b d x = (Stored (book_of r at b d).number (book_of r at b d).manager x.number x.manager) ⊎ ((Met (kept-book-reads.Post tt (r, (at, (b, (d, tt))))) x) ⊎ ((BookByWords r at b d x) ⊎ (BookSet r at b d x)))
+Book r at b d x = (Stored (book_of r at b d).number (book_of r at b d).manager x.number x.manager) ⊎ ((Met (kept-book-reads.Post tt (r, (at, (b, (d, tt))))) x) ⊎ ((BookByWords r at b d x) ⊎ ((BookSet r at b d x) ⊎ (BookHere r at b d x))))
 
 abbrev pub doors : Calls
 doors = promising promised Dry Book (λ r o. Answered (list_of r) o) (λ r a. ⊥)
@@ -113,13 +128,20 @@ set-books r at b d x ok (o, m, e) =
     p.1.2 ∙ rw p.1.1.1 (sym done))
     e
 
+here-books : (r : PrioritySeg) (at : Date) (b : Bundle) (d : TxData) (x : Booked) → BookHere r at b d x → x ≡ book_of r at b d
+here-books r at b d x (κs, a, e, t, came, when, bundle, dates, post, number, left) =
+    let is : made (told t) e.0.now ≡ book_of r at b d = rw (← came, ← when, ← bundle, ← dates) post in
+    one x (book_of r at b d) (sym number ∙ ap (λ (y : Booked). y.number) is) (sym left ∙ ap (λ (y : Booked). y.manager) is)
+
 book-is : (r : PrioritySeg) (at : Date) (b : Bundle) (d : TxData) (x : Booked) → record_ok r ≡ true → Book r at b d x → x ≡ book_of r at b d
 book-is r at b d x ok =
     ⊎_elim (λ (p : Stored (book_of r at b d).number (book_of r at b d).manager x.number x.manager). one x (book_of r at b d) p.0 p.1)
     (⊎_elim (λ (p : Met (kept-book-reads.Post tt (r, (at, (b, (d, tt))))) x). p.1)
     (⊎_elim
     (λ (p : BookByWords r at b d x). one x (book_of r at b d) (rw (← p.3, ← p.4, ← p.5, ← p.6) p.7.0) (sym p.8 ∙ rw (← p.3, ← p.4, ← p.5, ← p.6) p.7.1))
-    (λ (p : BookSet r at b d x). set-books r at b d x ok p)))
+    (⊎_elim
+    (λ (p : BookSet r at b d x). set-books r at b d x ok p)
+    (λ (p : BookHere r at b d x). here-books r at b d x p))))
 
 -- a run through any doors, call by call, is a run of the total calls
 pub doors-run : (x y : State PrioritySeg) → record_ok x.manager ≡ true → Runs doors x y → Runs promised x y

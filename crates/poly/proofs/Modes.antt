@@ -58,6 +58,10 @@ module _ {mode : ℕ} (v : ℕ) where
   unfolding wanted_of
   wanted-exact e = rw (eq-eqb mode 2 e)
 
+  pub wanted-ported : (mode ≡ 2 → ⊥) → wanted_of mode v ≡ v
+  unfolding wanted_of
+  wanted-ported n = rw (ne_eqb mode 2 n)
+
 -- a size is at least 1 in either mode, and at most twelve times itself
 more : (b : Bool) (v : ℕ) → 1 ≤ v → 1 ≤ pick b (12 * v) v
 more true v h = omega arith

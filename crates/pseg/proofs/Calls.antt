@@ -41,6 +41,14 @@ module _ (r : PrioritySeg) (n : ℕ) (other : (n ≡ 0 → ⊥) × (n ≡ 9 → 
   booked-number (Continue now) p = λ h. other.1 (sym h)
 
 module _ (r : PrioritySeg) (at : Date) (b : Bundle) where
+  pub dry-record : record_ok r ≡ false → dry_run_of r at b ≡ refused 1
+  unfolding dry_run_of
+  dry-record e = unless-stop _ _ _ e
+
+  pub book-record : (d : TxData) → record_ok r ≡ false → book_of r at b d ≡ refused_booking 1 r
+  unfolding book_of
+  book-record d e = unless-stop _ _ _ e
+
   module _ (ok : record_ok r ≡ true) where
     pub dry-bundle : bundle_ok at b ≡ false → dry_run_of r at b ≡ refused 2
     unfolding dry_run_of

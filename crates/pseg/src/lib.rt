@@ -12,7 +12,7 @@ ghost use Rattle.pseg.specs.Record.{record_ok};
 ghost use Rattle.pseg.specs.DryRun.{dry_run_of, run_of};
 ghost use Rattle.pseg.specs.Book.{book_of, set_list, refused_booking};
 ghost use Rattle.pseg.specs.List.{list_of};
-ghost use Rattle.pseg.specs.Granted.{booked_in};
+ghost use Rattle.pseg.specs.Granted.{left_by};
 
 use bookings::{BookingSegment, Bookings, Level, Search, Set};
 use contact::{Choices, Contact};
@@ -120,9 +120,9 @@ impl PrioritySeg {
     }
 
     // The run that is offered: 2 or 7.
-    fn found(self, at: Date, bundle: Bundle) -> Result<Interval, Refusal>
-        requires kept { record_ok self ≡ true }
-        ensures { MatchResult result (λ send. (bundle_ok at bundle ≡ true) × (run_of self at.0 bundle ≡ Break send)) (λ e. dry_run_of self at bundle ≡ refused (number_of e)) }
+    fn found(&self, at: Date, bundle: Bundle) -> Result<Interval, Refusal>
+        requires kept { record_ok self.now ≡ true }
+        ensures { MatchResult result (λ send. (bundle_ok at bundle ≡ true) × (run_of self.now at.0 bundle ≡ Break send)) (λ e. dry_run_of self.now at bundle ≡ refused (number_of e)) }
     {
         if !bundle.ok_at(at) {
             return Err(Refusal::Bundle);
@@ -137,7 +137,19 @@ impl PrioritySeg {
         };
         search
             .find_run(self.bookings.listed())
+            .break_value()
             .ok_or(Refusal::NoOffer)
+    }
+
+    // What a dry run answers on a record that keeps its rules, which is lent, so that no call within copies it.
+    fn offer(&self, at: Date, bundle: Bundle) -> Offer
+        requires { record_ok self.now ≡ true }
+        ensures { result ≡ dry_run_of self.now at bundle }
+    {
+        match self.found(at, bundle) {
+            Ok(send) => self.contact.answer(send),
+            Err(refusal) => Offer::refused(refusal.number()),
+        }
     }
 
     // The dry run on a record that keeps its rules, without testing it again: for a caller who holds such a record.
@@ -145,10 +157,7 @@ impl PrioritySeg {
         requires { record_ok self ≡ true }
         ensures { result ≡ dry_run_of self at bundle }
     {
-        match self.found(at, bundle) {
-            Ok(send) => self.contact.answer(send),
-            Err(refusal) => Offer::refused(refusal.number()),
-        }
+        self.offer(at, bundle)
     }
 
     // dry_run_tx: 1, 2, then 7 or 8.
@@ -159,27 +168,31 @@ impl PrioritySeg {
         if !self.ok() {
             return Offer::refused(Refusal::Record.number());
         }
-        self.dry_run_kept(at, bundle)
+        self.offer(at, bundle)
     }
 
-    // The record with the booking: 2, 9, 17, then 10.
-    fn booked(self, at: Date, bundle: Bundle, dates: TxData) -> Result<PrioritySeg, Refusal>
-        requires kept { record_ok self ≡ true }
-        ensures { booked_in self result ≡ book_of self at bundle dates }
+    // The booking on such a record, where it stands: 2, 9, 17, then 10, and the record as it was. By value each booking would copy it.
+    pub fn book_here(&mut self, at: Date, bundle: Bundle, dates: TxData) -> Result<(), Refusal>
+        requires kept { record_ok self.old ≡ true }
+        ensures { left_by self.new result ≡ book_of self.old at bundle dates }
     {
-        self.dry_run_kept(at, bundle)
+        self.offer(at, bundle)
             .check(self.contact.choices.strict, dates)?;
-        let bookings = self.bookings.set(dates.send, Level::from(bundle.priority))?;
-        Ok(PrioritySeg { bookings, ..self })
+        let level = Level::from(bundle.priority);
+        let (segments, count) = (&mut self.bookings.segments, &mut self.bookings.count);
+        bookings::place::set(segments, count, dates.send, level)
     }
 
     // The booking on such a record.
-    pub fn book_kept(self, at: Date, bundle: Bundle, dates: TxData) -> Booked
+    pub fn book_kept(mut self, at: Date, bundle: Bundle, dates: TxData) -> Booked
         requires { record_ok self ≡ true }
         ensures { result ≡ book_of self at bundle dates }
     {
-        match self.booked(at, bundle, dates) {
-            Ok(manager) => Booked { number: 0, manager },
+        match self.book_here(at, bundle, dates) {
+            Ok(()) => Booked {
+                number: 0,
+                manager: self,
+            },
             Err(refusal) => self.refused_booking(refusal),
         }
     }

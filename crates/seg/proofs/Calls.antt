@@ -62,6 +62,14 @@ module _ (r : FreeVolume) (n : ℕ) (other : (n ≡ 0 → ⊥) × (n ≡ 9 → �
   booked-number None v = λ h. other.1 (sym h)
 
 module _ (r : FreeVolume) (at : Date) (b : Bundle) where
+  pub dry-record : record_ok r ≡ false → dry_run_of r at b ≡ refused 1
+  unfolding dry_run_of
+  dry-record e = unless-stop _ _ _ e
+
+  pub book-record : (d : TxData) → record_ok r ≡ false → book_of r at b d ≡ refused_booking 1 r
+  unfolding book_of
+  book-record d e = unless-stop _ _ _ e
+
   abbrev fits : Bool
   fits = bundle_ok at b
 

@@ -4,6 +4,7 @@ pub mod Kept
 pub mod Promised
 pub mod Runs
 pub mod RoomBounds
+pub mod Here
 pub mod Unique
 pub mod Second
 pub mod Never8

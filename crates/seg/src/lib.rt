@@ -10,7 +10,7 @@ ghost use Rattle.seg.specs.DryRun.{dry_run_of};
 ghost use Rattle.seg.specs.Book.{book_of, cut_free, refused_booking};
 ghost use Rattle.seg.specs.List.{list_of};
 ghost use Rattle.seg.specs.Room.{room_in, refused_room, room_answer};
-ghost use Rattle.seg.specs.Granted.{chosen_of};
+ghost use Rattle.seg.specs.Granted.{chosen_of, left_by};
 
 use contact::{Choices, Contact};
 use free_list::{Chosen, Cut, FreeList};
@@ -132,11 +132,11 @@ impl FreeVolume {
             && unused(&self.free.segments[self.free.count..])
     }
 
-    // What a dry run finds on a record that keeps its rules: its answer, and where it comes from.
+    // What a dry run finds on a record that keeps its rules, which is lent, so that no call within copies it.
     // Its refusals stay numbers: the public answer `Chosen` has its number in the offer, where the delays' 8 stands too.
-    pub fn chosen(self, at: Date, bundle: Bundle) -> Chosen
-        requires { record_ok self ≡ true }
-        ensures { result ≡ chosen_of self at bundle }
+    fn found(&self, at: Date, bundle: Bundle) -> Chosen
+        requires { record_ok self.now ≡ true }
+        ensures { result ≡ chosen_of self.now at bundle }
     {
         if !bundle.ok_at(at) {
             return Chosen::refused(Refusal::Bundle.number());
@@ -156,12 +156,20 @@ impl FreeVolume {
         }
     }
 
+    // What a dry run finds on a record that keeps its rules: its answer, and where it comes from.
+    pub fn chosen(self, at: Date, bundle: Bundle) -> Chosen
+        requires { record_ok self ≡ true }
+        ensures { result ≡ chosen_of self at bundle }
+    {
+        self.found(at, bundle)
+    }
+
     // The dry run on such a record, without testing it again: for a caller who holds one.
     pub fn dry_run_kept(self, at: Date, bundle: Bundle) -> Offer
         requires { record_ok self ≡ true }
         ensures { result ≡ dry_run_of self at bundle }
     {
-        self.chosen(at, bundle).offer
+        self.found(at, bundle).offer
     }
 
     // dry_run_tx: 1, 2, then 7 or 8.
@@ -175,25 +183,40 @@ impl FreeVolume {
         self.dry_run_kept(at, bundle)
     }
 
-    // The booking on such a record.
-    pub fn book_kept(self, at: Date, bundle: Bundle, dates: TxData) -> Booked
+    // The booking on such a record, where it stands: 2, 9, 17, then 10, and the record as it came.
+    pub fn book_here(&mut self, at: Date, bundle: Bundle, dates: TxData) -> Result<(), Refusal>
+        requires { record_ok self.old ≡ true }
+        ensures { left_by self.new result ≡ book_of self.old at bundle dates }
+    {
+        let found = self.found(at, bundle);
+        found.offer.check(self.contact.choices.strict, dates)?;
+        // The whole array is read, not used: only so is the length of what stands behind a `&mut` known.
+        let _read = &self.free.segments[..];
+        let (segments, count) = (&mut self.free.segments, &mut self.free.count);
+        let change = free_list::place::cut(
+            segments,
+            count,
+            self.contact.choices.edition,
+            self.contact.rates(),
+            found.place,
+            dates.send,
+            bundle.size,
+        )?;
+        let room = free_list::changed(self.room, change.off, change.on);
+        self.room = room;
+        Ok(())
+    }
+
+    // The booking on a copy of such a record.
+    pub fn book_kept(mut self, at: Date, bundle: Bundle, dates: TxData) -> Booked
         requires { record_ok self ≡ true }
         ensures { result ≡ book_of self at bundle dates }
     {
-        let found = self.chosen(at, bundle);
-        match found.offer.check(self.contact.choices.strict, dates) {
-            Ok(()) => {
-                let done = self.cut(found.place, dates.send, bundle.size);
-                let next = FreeVolume {
-                    free: done.list,
-                    room: free_list::changed(self.room, done.off, done.on),
-                    ..self
-                };
-                Booked {
-                    number: done.number,
-                    manager: next,
-                }
-            }
+        match self.book_here(at, bundle, dates) {
+            Ok(()) => Booked {
+                number: 0,
+                manager: self,
+            },
             Err(refusal) => self.refused_booking(refusal),
         }
     }

@@ -1,8 +1,9 @@
--- How long texts are, and the text of a number as that of its bytes.
-use Prim.Native.Nat.{ℕ, zero, suc, ◌*◌, ◌/◌, ◌%◌, ◌^◌, ◌<◌}
-use mathlib.Core.Path.{◌≡◌, refl, ap}
-use mathlib.Core.List.{List, [], ◌∷◌, ◌++◌}
-use native.Mathlib.Nat.{div-one}
+-- How long texts are, the text of n bytes by its parts, and the text of a number as that of its bytes.
+use Prim.Native.Nat.{ℕ, zero, suc, ◌+◌, ◌*◌, ◌/◌, ◌%◌, ◌^◌, ◌<◌}
+use mathlib.Core.Path.{◌≡◌, refl, sym, ap, ◌∙◌}
+use mathlib.Core.List.{List, [], ◌∷◌, ◌++◌, append_assoc, append-nil}
+use native.Mathlib.Nat.{zero-add, suc-add, mul_comm, div-one, div-div-eq-div-mul}
+use lib.Pow.{pow-add}
 use native.Mathlib.Omega.{arith}
 use lib.ListN.{length, get_or, length-append}
 use Rattle.units.specs.declared.Interval.{Interval}
@@ -40,3 +41,19 @@ unfolding list_text word_text
 word_list zero x = refl
 word_list (suc zero) x = rw div-one
 word_list (suc (suc n)) x = ap (λ (l : List ℕ). byte_text (x / 256 ^ suc n % 256) ++ l) (word_list (suc n) x)
+
+shift : (x m n : ℕ) → x / 256 ^ (m + n) ≡ x / 256 ^ n / 256 ^ m
+shift x m n = ap (λ (k : ℕ). x / k) (pow-add 256 m n ∙ mul_comm (256 ^ m) (256 ^ n)) ∙ sym (div-div-eq-div-mul x (256 ^ n) (256 ^ m))
+
+-- the high bytes, then the low ones
+pub word-append : (m n x : ℕ) → word_text (m + n) x ≡ word_text m (x / 256 ^ n) ++ word_text n x
+unfolding word_text
+word-append zero n x = rw zero-add
+word-append (suc m) n x = rw (suc-add m n, shift x m n, word-append m n x, append_assoc)
+
+pub word_byte : (x : ℕ) → word_text 1 x ≡ byte_text (x % 256)
+unfolding word_text
+word_byte x = rw (append-nil, div-one)
+
+pub pair-bytes : (x : ℕ) → byte_text (x / 256 % 256) ++ byte_text (x % 256) ≡ word_text 2 x
+pair-bytes x = sym (word-append 1 1 x ∙ rw (word_byte x, word_byte (x / 256)))

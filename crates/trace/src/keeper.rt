@@ -64,9 +64,9 @@ impl Keeper {
         let bundle = layout::bundle_at(line, 9);
         match &self.held {
             Held::Nothing => Offer::refused(Refusal::Record.number()),
-            Held::Free(r) => r.dry_run_kept(at, bundle),
+            Held::Free(r) => r.chosen(at, bundle).offer,
             Held::Priority(r) => r.dry_run_kept(at, bundle),
-            Held::Polynomial(r) => r.dry_run_kept(at, bundle),
+            Held::Polynomial(r) => r.chosen(at, bundle).offer,
             Held::Queue(r) => r.dry_run_kept(at, bundle),
         }
     }
@@ -116,32 +116,25 @@ impl Keeper {
     }
 }
 
-// A booking's number; what is booked is off the list. A number here and above, and no Result: `cut`, `set` and the managers' bookings answer one, in the records that C has. One function for each manager: what a booking leaves differs (list and room, bookings, list), and so do the rules.
+// A booking's number; what is booked is off the list. A number here and above, and no Result: the answer's line is a number. One function for each manager: so do the rules differ that the record keeps.
 fn book_free(r: &mut FreeVolume, at: Date, bundle: Bundle, dates: TxData) -> u8
     requires { free_ok r.old ≡ true }
     ensures { free_ok r.new ≡ true }
 {
-    let c = r.chosen(at, bundle);
-    if let Err(refusal) = c.offer.check(r.contact.choices.strict, dates) {
-        return refusal.number();
+    match r.book_here(at, bundle, dates) {
+        Ok(()) => 0,
+        Err(refusal) => refusal.number(),
     }
-    let d = r.cut(c.place, dates.send, bundle.size);
-    r.room = free_list::changed(r.room, d.off, d.on);
-    r.free = d.list;
-    d.number
 }
 
 fn book_priority(r: &mut PrioritySeg, at: Date, bundle: Bundle, dates: TxData) -> u8
     requires { priority_ok r.old ≡ true }
     ensures { priority_ok r.new ≡ true }
 {
-    let offer = r.dry_run_kept(at, bundle);
-    if let Err(refusal) = offer.check(r.contact.choices.strict, dates) {
-        return refusal.number();
+    match r.book_here(at, bundle, dates) {
+        Ok(()) => 0,
+        Err(refusal) => refusal.number(),
     }
-    let d = r.set(dates.send, bundle.priority);
-    r.bookings = d.bookings;
-    d.number
 }
 
 fn book_polynomial(r: &mut PolySeg, at: Date, bundle: Bundle, dates: TxData) -> u8

@@ -1,18 +1,20 @@
 // The trace program: reads frames from standard input, one a line, and writes an answer line for each. Bounded memory: of a line that is too long, only as much is kept as tells so.
 #![tactic(auto)]
 
+mod bytes;
 mod keeper;
+mod line;
 mod reply;
 
 ghost use Rattle.std.specs.Prelude.{◌≡◌, ◌≤◌, length, take};
 ghost use Rattle.trace.specs.Counts.{IsPrefixLen};
 
-use arrayvec::ArrayVec;
+use bytes::Bytes;
 use keeper::Keeper;
-use memchr::memchr;
+use line::line_end;
 use reply::Reply;
 use std::io;
-use std::io::{Read, Stdin, Write};
+use std::io::{Read, Stdin};
 use text::LINE;
 
 // n, or the buffer's length where that is less. With its contract `&buf[..n]` needs no proof.
@@ -45,8 +47,8 @@ impl Talk {
 // The program between two reads.
 #[derive(Drop)]
 struct Program {
-    // An unfinished line, as far as it is kept, which goes from one read to the next: what `write` has no room for, it leaves out, since the line is too long by then.
-    rest: ArrayVec<u8, KEPT_MAX>,
+    // An unfinished line, as far as it is kept, which goes from one read to the next: what `keep` has no room for, it leaves out, since the line is too long by then.
+    rest: Bytes<KEPT_MAX>,
     talk: Talk,
 }
 
@@ -61,12 +63,12 @@ impl Program {
     // The whole lines of a chunk are answered, and what is left is kept for the next.
     fn lines(&mut self, chunk: &[u8]) -> io::Result<()> {
         let mut left = chunk;
-        // By `memchr`, which tests many bytes at a time; what stands after the last line end is no line yet, so no `split`.
-        while let Some(end) = memchr(b'\n', left) {
+        // What stands after the last line end is no line yet, so no `split`.
+        while let Some(end) = line_end(left) {
             self.talk.answer(&left[..end])?;
             left = &left[end + 1..];
         }
-        self.rest.write(left)?;
+        self.rest.keep(left);
         Ok(())
     }
 
@@ -75,11 +77,11 @@ impl Program {
         if self.rest.is_empty() {
             return self.lines(chunk);
         }
-        let Some(end) = memchr(b'\n', chunk) else {
-            self.rest.write(chunk)?;
+        let Some(end) = line_end(chunk) else {
+            self.rest.keep(chunk);
             return Ok(());
         };
-        self.rest.write(&chunk[..end])?;
+        self.rest.keep(&chunk[..end]);
         self.finish()?;
         self.lines(&chunk[end + 1..])
     }
@@ -117,7 +119,7 @@ impl Program {
 fn main(rt: HostRuntime) -> io::Result<()> {
     let mut chunk = [0u8; 65_536];
     let mut program = Program {
-        rest: ArrayVec::new(),
+        rest: Bytes::new(),
         talk: Talk {
             keeper: Keeper::new(),
             answer: [0u8; LINE],

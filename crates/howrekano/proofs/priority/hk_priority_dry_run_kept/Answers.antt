@@ -2,6 +2,7 @@
 use mathlib.Core.Bool.{true}
 use mathlib.Core.Path.{◌≡◌, sym, ap, ◌∙◌}
 use native.Mathlib.Nat.{le_refl}
+use Rattle.std.specs.ControlFlow.{break_value}
 use Rattle.units.specs.Limits.{bundle_ok}
 use Rattle.units.specs.Answer.{refused}
 use Rattle.units.proofs.Choice.{told-yes, told-no}
@@ -37,7 +38,7 @@ find_run-requires c =
 pub returns-in_default : goal.returns-in_default
 returns-in_default c =
     c.refused-in_default.ensures ∙ ap refused c.number-in_default.ensures
-    ∙ sym (dry-none _ _ _ c.requires (bundle-holds (goal.at.returns-in_default c).Else-not-ok_at) (sym c.in_default.is ∙ c.find_run.ensures))
+    ∙ sym (dry-none _ _ _ c.requires (bundle-holds (goal.at.returns-in_default c).Else-not-ok_at) (sym c.in_default.is ∙ c.break_value.ensures.value ∙ ap break_value c.find_run.ensures))
 
 pub shared_ref_as_front-find_delays : goal.shared_ref_as_front-find_delays
 shared_ref_as_front-find_delays c = (facts _ c.requires).contact.delays.1
@@ -45,11 +46,11 @@ shared_ref_as_front-find_delays c = (facts _ c.requires).contact.delays.1
 pub answer-requires : goal.answer-requires
 answer-requires c =
     record {
-      dated = dated _ _ _ c.requires (bundle-holds (goal.at.answer-requires c).Else-not-ok_at) _ (sym c.in-Some.is ∙ c.find_run.ensures);
+      dated = dated _ _ _ c.requires (bundle-holds (goal.at.answer-requires c).Else-not-ok_at) _ (sym c.in-Some.is ∙ c.break_value.ensures.value ∙ ap break_value c.find_run.ensures);
       short = rw c.find_delays-found.ensures (short _ c.args.at c.args.bundle c.requires _ _);
     }
 
 pub returns : goal.returns
 returns c =
     rw c.find_delays-found.ensures at c.answer.ensures
-    ∙ sym (dry-sent _ _ _ c.requires (bundle-holds (goal.at.returns c).Else-not-ok_at) _ (sym c.in-Some.is ∙ c.find_run.ensures))
+    ∙ sym (dry-sent _ _ _ c.requires (bundle-holds (goal.at.returns c).Else-not-ok_at) _ (sym c.in-Some.is ∙ c.break_value.ensures.value ∙ ap break_value c.find_run.ensures))

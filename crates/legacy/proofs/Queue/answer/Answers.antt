@@ -42,13 +42,13 @@ pub overflow_add-end : goal.overflow_add-end
 overflow_add-end c =
     let fits = fair (goal.at.overflow_add-end c).Else-not-ok_at in
     let l = load _ (asked-load _ _ fits) in
-    omega (arith, begun _ _ _ _ _ c.requires (asked _ _ fits) c.queue-queue.ensures c.start-start.ensures, div-le_self c.args.bundle.size.0 c.args.self.rate.0)
+    omega (arith, begun _ _ _ _ _ c.requires (asked _ _ fits) c.queue-queue.ensures c.start-start.ensures, div-le_self c.args.bundle.size.0 c.args.self.now.rate.0)
 
 pub returns-then-lt : goal.returns-then-lt
 returns-then-lt c =
     sym (dry-run-is _ _ _ c.requires (fair (goal.at.returns-then-lt c).Else-not-ok_at) ∙ answer-late _ _ _ _ _ c.queue-queue.ensures c.budget.ensures c.if-budget-queue.false _ c.start-start.ensures (lt-yes _ _ _ c.lt.ensures c.if-lt.true))
 
-within : (c : Else-lt) → c.start-start.result.0 + c.args.bundle.size.0 / c.args.self.rate.0 ≤ c.args.self.window.end.0
+within : (c : Else-lt) → c.start-start.result.0 + c.args.bundle.size.0 / c.args.self.now.rate.0 ≤ c.args.self.now.window.end.0
 within c = lt-not _ _ _ c.lt.ensures c.if-lt.false
 
 pub after-requires : goal.after-requires

@@ -15,7 +15,7 @@ pub returns-then-not-within : goal.returns-then-not-within
 returns-then-not-within c = sym (put-stop _ _ _ c.class-reached.ensures c.requires.small (told-no c.within.ensures c.if-not-within.true))
 
 pub add-requires-clause-low : goal.add-requires-clause-low
-add-requires-clause-low c = first-low queue_max c.args.self.queues (sound _ c.requires.kept).queue _
+add-requires-clause-low c = first-low queue_max c.args.self.now.queues (sound _ c.requires.kept).queue _
 
 pub returns : goal.returns
 returns c =

@@ -12,10 +12,10 @@ nonzero_div-wait c = let s = sound _ c.requires.kept in omega arith
 
 pub overflow_add-from : goal.overflow_add-from
 overflow_add-from c =
-    let s = sound _ c.requires.kept in omega (arith, div-le_self c.args.queue.0 c.args.self.rate.0)
+    let s = sound _ c.requires.kept in omega (arith, div-le_self c.args.queue.0 c.args.self.now.rate.0)
 
 pub overflow_add-result : goal.overflow_add-result
 overflow_add-result c =
     let s = sound _ c.requires.kept in
-    let m : c.max-2.result.0 ≡ max c.args.self.window.start.0 c.args.at.0 = search rules in
-    omega (arith, div-le_self c.args.queue.0 c.args.self.rate.0)
+    let m : c.max-2.result.0 ≡ max c.args.self.now.window.start.0 c.args.at.0 = search rules in
+    omega (arith, div-le_self c.args.queue.0 c.args.self.now.rate.0)

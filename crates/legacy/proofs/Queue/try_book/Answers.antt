@@ -16,13 +16,13 @@ returns-in_err-check c =
     let p = err_from_is_err_and c.from_residual.result c.from_residual.ensures.1 in
     let a = c.args in
     rw (p.1, p.2)
-    (sym (book-stop _ _ _ _ c.requires _ (c.in_err-check.ensures ∙ ap (λ (o : Offer). refusal_of (strict_of a.self) o a.dates) c.dry_run_kept.ensures)))
+    (sym (book-stop _ _ _ _ c.requires _ (c.in_err-check.ensures ∙ ap (λ (o : Offer). refusal_of (strict_of a.self.now) o a.dates) (c.offer.ensures ∙ c.answer.ensures))))
 
 -- the dry run's answer is booked
-passed : (c : In_ok-check) → let a = c.args in refusal_of (strict_of a.self) (dry_run_of a.self a.at a.bundle) a.dates ≡ 0
+passed : (c : In_ok-check) → let a = c.args in refusal_of (strict_of a.self.now) (dry_run_of a.self.now a.at a.bundle) a.dates ≡ 0
 passed c =
     let a = c.args in
-    sym (c.in_ok-check.ensures ∙ ap (λ (o : Offer). refusal_of (strict_of a.self) o a.dates) c.dry_run_kept.ensures)
+    sym (c.in_ok-check.ensures ∙ ap (λ (o : Offer). refusal_of (strict_of a.self.now) o a.dates) (c.offer.ensures ∙ c.answer.ensures))
 
 pub put-requires-clause-small : goal.put-requires-clause-small
 put-requires-clause-small c = dry-small _ _ _ _ c.requires (passed (goal.at.put-requires-clause-small c).In_ok-check)

@@ -1,7 +1,8 @@
 -- `pseg::PrioritySeg::found` meets its contract, refusal by refusal.
 use mathlib.Core.Bool.{true}
-use mathlib.Core.Path.{◌≡◌}
+use mathlib.Core.Path.{◌≡◌, ap, ◌∙◌}
 use native.Mathlib.Nat.{le_refl}
+use Rattle.std.specs.ControlFlow.{break_value}
 use Rattle.units.specs.Limits.{bundle_ok}
 use Rattle.units.proofs.Choice.{told-yes, told-no}
 use Rattle.units.proofs.Loads.{asked-load, load}
@@ -38,4 +39,4 @@ find_run-requires c =
 
 pub returns : goal.returns
 returns c =
-    found-is _ _ _ c.requires.kept (bundle-holds (goal.at.returns c).Else-not-ok_at) _ (rw (c.rates.ensures, c.listed.ensures) at c.find_run.ensures) _ c.ok_or.ensures.value
+    found-is _ _ _ c.requires.kept (bundle-holds (goal.at.returns c).Else-not-ok_at) _ (c.break_value.ensures.value ∙ ap break_value (rw (c.rates.ensures, c.listed.ensures) at c.find_run.ensures)) _ c.ok_or.ensures.value

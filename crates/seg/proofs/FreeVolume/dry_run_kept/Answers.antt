@@ -5,4 +5,4 @@ use Rattle.seg.proofs.Calls.{chosen-offer}
 use Rattle.seg.proofs.FreeVolume.dry_run_kept.Goals as goal
 
 pub returns : goal.returns
-returns c = ap (λ (x : Chosen). x.offer) c.chosen.ensures ∙ chosen-offer _ _ _ c.requires
+returns c = ap (λ (x : Chosen). x.offer) c.found.ensures ∙ chosen-offer _ _ _ c.requires

@@ -1,9 +1,9 @@
--- `bookings::Search::over` meets its contract. The invariant: what is left of the list, searched with the run so far, answers as the whole.
+-- `bookings::Search::find_run` meets its contract. The invariant: what is left of the list, searched with the run so far, answers as the whole.
 use Rattle.std.proofs.Common.{◌≡◌, drop}
 use Rattle.std.specs.Prelude.{None}
 use Rattle.std.specs.declared.ops.ControlFlow.TheVariants.{Continue}
 use Rattle.bookings.specs.Search.{rule_of, search_of}
-use Rattle.bookings.proofs.Search.over.Given as goal
+use Rattle.bookings.proofs.Search.find_run.Given as goal
 
 abbrev pub invariant-loop-g : goal.invariant-loop-g
 invariant-loop-g l =

@@ -1,4 +1,4 @@
--- `seg::FreeVolume::chosen` meets its contract, refusal by refusal: a record that keeps its rules has what the search and the answer ask.
+-- `seg::FreeVolume::found` meets its contract, refusal by refusal: a record that keeps its rules has what the search and the answer ask.
 use mathlib.Core.Bool.{true}
 use mathlib.Core.Path.{◌≡◌, sym, ap, ◌∙◌}
 use Prim.Native.Nat.{◌<◌}
@@ -10,8 +10,8 @@ use Rattle.free_list.specs.Granted.{none_chosen}
 use Rattle.seg.specs.DryRun.{found_of}
 use Rattle.seg.proofs.Facts.{facts, answer-asks}
 use Rattle.seg.proofs.Calls.{chosen-bundle, chosen-as}
-use Rattle.seg.proofs.FreeVolume.chosen.Goals as goal
-use Rattle.seg.proofs.FreeVolume.chosen.Goals.{Else-not-ok_at, In-Some}
+use Rattle.seg.proofs.FreeVolume.found.Goals as goal
+use Rattle.seg.proofs.FreeVolume.found.Goals.{Else-not-ok_at, In-Some}
 
 -- the test that holds
 bundle-holds : (c : Else-not-ok_at) → let a = c.args in bundle_ok a.at a.bundle ≡ true
@@ -23,7 +23,7 @@ some c = (load _ (asked-load _ _ (bundle-holds c))).some
 -- what the search found
 found : (c : In-Some) →
     let a = c.args in
-    found_of a.self a.at.0 a.bundle.size.0 ≡ fit_at c.in-Some.fit.place c.in-Some.fit.send
+    found_of a.self.now a.at.0 a.bundle.size.0 ≡ fit_at c.in-Some.fit.place c.in-Some.fit.send
 found c = sym (rw (c.rates.ensures, c.listed.ensures) at c.in-Some.ensures)
 
 pub returns-then-not-ok_at : goal.returns-then-not-ok_at

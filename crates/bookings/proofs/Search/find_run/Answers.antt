@@ -1,7 +1,7 @@
--- `bookings::Search::over` meets its contract: what is left of the list is searched with the run so far, and an offer is the answer.
+-- `bookings::Search::find_run` meets its contract: what is left of the list is searched with the run so far, and an offer is the answer.
 use Rattle.std.proofs.Common.{sym}
 use Rattle.bookings.proofs.SearchLaws.{covers-later, from_here, search-end, search-on, search-sent}
-use Rattle.bookings.proofs.Search.over.Goals as goal
+use Rattle.bookings.proofs.Search.find_run.Goals as goal
 
 pub turn-requires : goal.turn-requires
 turn-requires c =

@@ -1,9 +1,9 @@
--- `pseg::PrioritySeg::dry_run_kept` meets its contract: the run that is found is answered with its delays, or the refusal is.
+-- `pseg::PrioritySeg::offer` meets its contract: the run that is found is answered with its delays, or the refusal is.
 use mathlib.Core.Path.{sym, ◌∙◌}
 use Rattle.units.proofs.Loads.{asked-load, load}
 use Rattle.pseg.proofs.Facts.{facts, answer-asks}
 use Rattle.pseg.proofs.Calls.{dry-at}
-use Rattle.pseg.proofs.PrioritySeg.dry_run_kept.Goals as goal
+use Rattle.pseg.proofs.PrioritySeg.offer.Goals as goal
 
 pub answer-requires : goal.answer-requires
 answer-requires c =
